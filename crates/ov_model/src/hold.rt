@@ -9,9 +9,8 @@ pub enum Given {
     Last,
 }
 
-/// A release that is owed: the serial of the peer or of the key.
+/// A release that is owed: the serial of the peer.
 #[derive(Clone, Copy, Debug, PartialEq, Eq)]
 pub enum Owed {
     Peer(u32),
-    Key(u32),
 }

@@ -1,0 +1,2 @@
+pub mod PeerIds
+pub mod Going

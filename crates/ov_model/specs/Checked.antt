@@ -1,0 +1,80 @@
+-- The attribute checks of the netlink family: the command of a message, or its refusal.
+use Rattle.std.specs.Prelude.{ℕ, List, Bool, true, false, Option, Some, None, is_some, is_none, option_and_then, if◌then◌else◌, not, nat_lt, ◌==◌, ◌&&◌, ◌||◌, Result, Ok, Err, unwrap_or}
+use Rattle.ov_base.specs.declared.address.Addr.{Addr}
+use Rattle.ov_base.specs.declared.address.Addr.TheVariants.{V4, V6}
+use Rattle.ov_base.specs.declared.address.Transport.{Transport}
+use Rattle.ov_model.specs.declared.ident.PeerId.{PeerId}
+use Rattle.ov_model.specs.declared.command.Attrs.{Attrs}
+use Rattle.ov_model.specs.declared.command.Keepalive.{Keepalive}
+use Rattle.ov_model.specs.declared.command.Command.{Command}
+use Rattle.ov_model.specs.declared.command.Command.TheVariants as command
+use Rattle.ov_model.specs.declared.command.Reason.TheVariants.{Userspace}
+use Rattle.ov_model.specs.declared.reply.Errno.{Errno}
+use Rattle.ov_model.specs.declared.reply.Errno.TheVariants.{Invalid}
+use Rattle.ov_model.specs.declared.netlink.NlOp.{NlOp}
+use Rattle.ov_model.specs.declared.netlink.NlOp.TheVariants as op
+use Rattle.ov_model.specs.declared.netlink.NlPeer.{NlPeer}
+use Rattle.ov_model.specs.declared.netlink.NlMessage.{NlMessage}
+use Rattle.ov_model.specs.Ident.{peer_id}
+
+-- A port is from 1 to 65535.
+abbrev pub bad_port : Option ℕ → Bool
+bad_port None = false
+bad_port (Some n) = (n == 0) || nat_lt 65535 n
+
+-- A scope id other than 0 isn't supported.
+abbrev pub bad_scope : Option ℕ → Bool
+bad_scope None = false
+bad_scope (Some n) = nat_lt 0 n
+
+-- Whether one is given without the other.
+abbrev pub only_one : Bool → Bool → Bool
+only_one a b = (a && not b) || (not a && b)
+
+-- The remote address: one family at most is given.
+abbrev pub remote_of_family : Option (List ℕ) → Option (List ℕ) → Option Addr
+remote_of_family (Some a) _ = Some (V4 a)
+remote_of_family None (Some a) = Some (V6 a)
+remote_of_family None None = None
+
+abbrev pub remote_addr : NlPeer → Option Addr
+remote_addr p = remote_of_family p.remote_ipv4 p.remote_ipv6
+
+-- Whether an attribute of peer-new is out of its range or stands without another that it needs.
+abbrev pub is_invalid : NlPeer → Bool
+is_invalid p =
+    (is_some p.remote_ipv4 && is_some p.remote_ipv6) ||
+    (bad_scope p.remote_ipv6_scope_id ||
+    (only_one (is_some (remote_addr p)) (is_some p.remote_port) ||
+    (bad_port p.remote_port ||
+    ((is_some p.local_ipv4 && is_some p.local_ipv6) ||
+    (bad_port p.local_port ||
+    only_one (is_some p.keepalive_interval) (is_some p.keepalive_timeout))))))
+
+abbrev pub transport_of : Option Addr → Option ℕ → Option Transport
+transport_of (Some a) (Some n) = Some (record { addr = a; port = n })
+transport_of _ _ = None
+
+abbrev pub keepalive_of : Option ℕ → Option ℕ → Option Keepalive
+keepalive_of (Some i) (Some t) = Some (record { interval = i; timeout = t })
+keepalive_of _ _ = None
+
+-- The attributes of a message that passed the checks. Those that have no place here are accepted and
+-- not used.
+abbrev pub attrs_of : PeerId → NlPeer → Attrs
+attrs_of id p = record { id = id; remote = transport_of (remote_addr p) p.remote_port; vpn4 = p.vpn_ipv4; vpn6 = p.vpn_ipv6; keepalive = keepalive_of p.keepalive_interval p.keepalive_timeout }
+
+abbrev pub checked_peer : NlOp → NlPeer → Option PeerId → Result Command Errno
+checked_peer _ p None = Err Invalid
+checked_peer op.PeerNew p (Some id) = if is_invalid p then Err Invalid else Ok (command.PeerNew (attrs_of id p))
+checked_peer op.PeerGet p (Some id) = Ok (command.PeerGet id)
+checked_peer op.PeerDel p (Some id) = Ok (command.Remove id Userspace)
+
+abbrev pub checked_with : NlOp → Option NlPeer → Result Command Errno
+checked_with o None = Err Invalid
+checked_with o (Some p) = checked_peer o p (option_and_then peer_id p.id)
+
+-- The command of a message; Invalid where its peer or its id is missing, the id is above 16777215,
+-- or an attribute of peer-new is invalid.
+unfoldable pub checked : NlMessage → Result Command Errno
+checked m = checked_with m.op m.peer

@@ -1,0 +1,65 @@
+-- What happens while a line runs: steps of the peer table and of the replay shards.
+use Rattle.std.specs.Prelude.{ℕ, List, [], ◌∷◌, ◌++◌, Bool, ◌==◌, ◌&&◌, filter, map}
+use Rattle.ov_model.specs.declared.place.Place.{Place}
+use Rattle.ov_model.specs.declared.act.Act.{Act}
+use Rattle.ov_model.specs.declared.act.Act.TheVariants as act
+use Rattle.ov_model.specs.declared.entry.Entry.{Entry}
+use Rattle.ov_model.specs.declared.hold.Owed.{Owed}
+use Rattle.ov_model.specs.declared.hold.Owed.TheVariants as owed
+use Rattle.ov_model.specs.declared.reply.Reply.{Reply}
+use Rattle.ov_model.specs.declared.reply.Reply.TheVariants as reply
+use Rattle.ov_model.specs.declared.replay.Verdict.{Verdict}
+use Rattle.ov_model.specs.declared.replay.ReplayEntry.{ReplayEntry}
+use Rattle.ov_model.specs.Tables.{Table, empty_table}
+use Rattle.ov_model.specs.Step.{step}
+
+-- An entry of the journal with the serials of the keys that its step took out of a slot.
+pub record Step : Type 0 where
+  pub entry : Entry
+  pub taken : List ℕ
+
+-- A replay step as the line that made it sees it: the window's own moment isn't the line's business.
+pub record Judgement : Type 0 where
+  pub place : Place
+  pub key : ℕ
+  pub id : ℕ
+  pub at : ℕ
+  pub verdict : Verdict
+
+-- The steps of a run, each with what it took.
+abbrev pub steps_after : Table → List Entry → List Step
+steps_after t [] = []
+steps_after t (e ∷ es) = record { entry = e; taken = (step t e.call).taken } ∷ steps_after (step t e.call).after es
+
+abbrev pub steps_of : List Entry → List Step
+steps_of journal = steps_after empty_table journal
+
+abbrev pub judgement_of : ReplayEntry → Judgement
+judgement_of r = record { place = r.place; key = r.key; id = r.id; at = r.at; verdict = r.verdict }
+
+-- Whether a place is a lane's line.
+abbrev pub is_at : ℕ → ℕ → Place → Bool
+is_at lane line p = (p.lane == lane) && (p.line == line)
+
+-- The steps that one line made, in order.
+abbrev pub of : List Step → ℕ → ℕ → List Step
+of steps lane line = filter (λ s. is_at lane line s.entry.place) steps
+
+-- The replay steps that one line made in one shard, and in all shards, joined in their order.
+abbrev pub shown : List ReplayEntry → ℕ → ℕ → List Judgement
+shown shard lane line = map judgement_of (filter (λ r. is_at lane line r.place) shard)
+
+abbrev pub shown_in : List (List ReplayEntry) → ℕ → ℕ → List Judgement
+shown_in [] lane line = []
+shown_in (shard ∷ shards) lane line = shown shard lane line ++ shown_in shards lane line
+
+-- The step of a call with its reply.
+abbrev pub step_of : Place → ℕ → Act → Reply → List ℕ → Step
+step_of place at a r taken = record { entry = record { place = place; call = record { at = at; act = a }; reply = r }; taken = taken }
+
+-- The releases that a line made, in order.
+abbrev pub release_of : Place → ℕ → Owed → Step
+release_of place at (owed.Peer p) = step_of place at (act.Released p) (reply.Released p) []
+
+abbrev pub releases : Place → ℕ → List Owed → List Step
+releases place at os = map (release_of place at) os

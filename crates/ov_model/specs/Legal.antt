@@ -1,0 +1,69 @@
+-- What every report must be.
+use Rattle.std.specs.Prelude.{ℕ, ◌+◌, ◌-◌, ◌≡◌, ◌<◌, ◌≤◌, List, [], ◌∷◌, ◌++◌, Option, Some, None, Bool, ◌==◌, filter, map, take, length, slice_get, All}
+use Rattle.ov_base.specs.declared.address.Addr.{Addr}
+use Rattle.ov_model.specs.declared.place.Place.{Place}
+use Rattle.ov_model.specs.declared.entry.Entry.{Entry}
+use Rattle.ov_model.specs.declared.line.Line.{Line}
+use Rattle.ov_model.specs.declared.line.Script.{Script}
+use Rattle.ov_model.specs.declared.answer.Answer.{Answer}
+use Rattle.ov_model.specs.declared.replay.ReplayEntry.{ReplayEntry}
+use Rattle.ov_model.specs.declared.report.LaneLog.{LaneLog}
+use Rattle.ov_model.specs.declared.report.Report.{Report}
+use Rattle.ov_model.specs.Runs.{IsRun, notes_of, last_table}
+use Rattle.ov_model.specs.Events.{Step, Judgement, of, shown_in, steps_of}
+use Rattle.ov_model.specs.Path.{Path, Material}
+
+-- The script's lines of one lane, in order.
+abbrev pub lane_lines : List Line → ℕ → List Line
+lane_lines lines lane = filter (λ line. line.lane == lane) lines
+
+-- One lane's log: its lines without those that came from a link are the script's lines of the lane,
+-- and there is an answer for each line.
+pub record LaneMatches (lines : List Line) (lane : ℕ) (log : LaneLog) : Type 0 where
+  pub recorded : log.recorded ≤ length log.lines
+  pub lines_are : take (length log.lines - log.recorded) log.lines ≡ lane_lines lines lane
+  pub answered : length log.answers ≡ length log.lines
+
+-- Lanes and their lines: each line of the script has a lane of the report, and each log matches.
+pub record LanesMatch (script : Script) (report : Report) : Type 0 where
+  pub within : All (λ line. line.lane < length report.lanes) script.lines
+  pub each : (lane : ℕ) (log : LaneLog) → slice_get report.lanes lane ≡ Some log → LaneMatches script.lines lane log
+
+-- The journal is a run of the serial peer table, and the notes are those of the run.
+pub record JournalRuns (report : Report) : Type 0 where
+  pub runs : IsRun report.journal
+  pub notes : report.notes ≡ notes_of report.journal
+
+-- One answered line of a lane.
+pub record Meets (material : ℕ → Option Material) (via : Addr → Addr) (steps : List Step) (shards : List (List ReplayEntry)) (lane : ℕ) (lines : List Line) (answers : List Answer) (i : ℕ) : Type 0 where
+  pub line : Line
+  pub answer : Answer
+  pub line_is : slice_get lines i ≡ Some line
+  pub answer_is : slice_get answers i ≡ Some answer
+  pub path : Path material via (record { lane = lane; line = i }) line (of steps lane i) (shown_in shards lane i) answer
+
+-- Along the steps, the line numbers of a lane never fall: none after a step of line n is below n.
+abbrev pub NeverFall : ℕ → List Step → Type 0
+NeverFall lane [] = Unit {0}
+NeverFall lane (s ∷ steps) = (s.entry.place.lane ≡ lane → All (λ later. later.entry.place.lane ≡ lane → s.entry.place.line ≤ later.entry.place.line) steps) × NeverFall lane steps
+
+-- A lane of which the first lines are answered and the next one, if it began, has made the steps
+-- `now` so far. At the end of a run nothing is under way, and `now` is empty.
+pub record LaneMeets (material : ℕ → Option Material) (via : Addr → Addr) (steps : List Step) (shards : List (List ReplayEntry)) (lane : ℕ) (lines : List Line) (answers : List Answer) (now : List Step) (judged : List Judgement) : Type 0 where
+  pub within : All (λ s. s.entry.place.lane ≡ lane → s.entry.place.line ≤ length answers) steps
+  pub falls : NeverFall lane steps
+  pub each : (i : ℕ) → i < length answers → Meets material via steps shards lane lines answers i
+  pub under_way : of steps lane (length answers) ≡ now
+  pub judging : shown_in shards lane (length answers) ≡ judged
+
+-- Lines and steps: each step has a lane and a line of the report, in each lane the lines' numbers
+-- never fall along the journal, and each line has a path.
+pub record LinesFollowPath (material : ℕ → Option Material) (via : Addr → Addr) (report : Report) : Type 0 where
+  pub within : All (λ s. s.entry.place.lane < length report.lanes) (steps_of report.journal)
+  pub each : (lane : ℕ) (log : LaneLog) → slice_get report.lanes lane ≡ Some log → LaneMeets material via (steps_of report.journal) report.shards lane log.lines log.answers [] []
+
+-- A script's report. No key is made yet, and without routes the next hop of an address is itself.
+pub record Legal (script : Script) (report : Report) : Type 0 where
+  pub lanes : LanesMatch script report
+  pub journal : JournalRuns report
+  pub lines : LinesFollowPath (λ _. None) (λ a. a) report

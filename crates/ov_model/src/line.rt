@@ -1,0 +1,27 @@
+//! The lines of a script.
+
+use crate::netlink::NlMessage;
+use ov_base::ListOf;
+
+/// What a line asks for.
+#[derive(Debug, Drop, PartialEq, Eq)]
+pub enum Deed {
+    /// A netlink message.
+    Netlink(NlMessage),
+}
+
+/// One line of a script.
+#[derive(Debug, Drop, PartialEq, Eq)]
+pub struct Line {
+    /// The lane that runs the line.
+    pub lane: u32,
+    /// The moment, in whole seconds.
+    pub at: u32,
+    pub deed: Deed,
+}
+
+/// A script: its lines in order, of all lanes.
+#[derive(Debug, Drop, PartialEq, Eq)]
+pub struct Script {
+    pub lines: ListOf<Line>,
+}

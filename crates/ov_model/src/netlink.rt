@@ -1,0 +1,37 @@
+//! Messages of the netlink family as a control program sends them: every attribute as it was given.
+
+/// The operations of the family that are taken.
+#[derive(Clone, Copy, Debug, PartialEq, Eq)]
+pub enum NlOp {
+    PeerNew,
+    PeerGet,
+    PeerDel,
+}
+
+/// The attributes of a peer as they were given, in no range yet. Addresses are in network order.
+#[derive(Clone, Copy, Debug, PartialEq, Eq)]
+pub struct NlPeer {
+    pub id: Option<u32>,
+    pub remote_ipv4: Option<[u8; 4]>,
+    pub remote_ipv6: Option<[u8; 16]>,
+    pub remote_ipv6_scope_id: Option<u32>,
+    pub remote_port: Option<u32>,
+    pub socket: Option<u32>,
+    pub socket_netnsid: Option<u32>,
+    pub vpn_ipv4: Option<[u8; 4]>,
+    pub vpn_ipv6: Option<[u8; 16]>,
+    pub local_ipv4: Option<[u8; 4]>,
+    pub local_ipv6: Option<[u8; 16]>,
+    pub local_port: Option<u32>,
+    pub keepalive_interval: Option<u32>,
+    pub keepalive_timeout: Option<u32>,
+}
+
+/// One message: its operation and the attributes that came with it.
+#[derive(Clone, Copy, Debug, PartialEq, Eq)]
+pub struct NlMessage {
+    pub op: NlOp,
+    /// The device. It is accepted and not used.
+    pub ifindex: Option<u32>,
+    pub peer: Option<NlPeer>,
+}
