@@ -1,0 +1,156 @@
+-- The lines of a report: each a compact JSON object (RFC 8259) whose names stand in ascending byte
+-- order at each level, followed by a line end. `put` sets a name, and keeps the order.
+use Rattle.std.specs.Prelude.{ℕ, ◌+◌, List, [], ◌∷◌, ◌++◌, Option, Some, None, map, codes}
+use Rattle.std.specs.Net.Text.{ipv4_text}
+use Rattle.hex.specs.Hex.{encode_lower}
+use Rattle.serde_json.specs.Data.{Data, string, number, unsigned, array, object, Members, no_members, put}
+use Rattle.serde_json.specs.View.{items_of}
+use Rattle.serde_json.specs.Written.{compact_text}
+use Rattle.ov_base.specs.declared.address.Addr.{Addr}
+use Rattle.ov_base.specs.declared.address.Addr.TheVariants.{V4, V6}
+use Rattle.ov_base.specs.declared.address.Transport.{Transport}
+use Rattle.ov_model.specs.declared.act.Act.{Act}
+use Rattle.ov_model.specs.declared.act.Act.TheVariants as act
+use Rattle.ov_model.specs.declared.command.Command.TheVariants as command
+use Rattle.ov_model.specs.declared.command.Reason.{Reason}
+use Rattle.ov_model.specs.declared.command.Reason.TheVariants as reason
+use Rattle.ov_model.specs.declared.entry.Entry.{Entry}
+use Rattle.ov_model.specs.declared.reply.Errno.{Errno}
+use Rattle.ov_model.specs.declared.reply.Errno.TheVariants.{NoEntry, Exists, Invalid, NoSpace}
+use Rattle.ov_model.specs.declared.reply.Counts.{Counts}
+use Rattle.ov_model.specs.declared.reply.PeerView.{PeerView}
+use Rattle.ov_model.specs.declared.reply.Reply.{Reply}
+use Rattle.ov_model.specs.declared.reply.Reply.TheVariants as reply
+use Rattle.ov_model.specs.declared.answer.Answer.{Answer}
+use Rattle.ov_model.specs.declared.answer.Answer.TheVariants as answer
+use Rattle.ov_model.specs.declared.note.Note.{Note}
+use Rattle.ov_model.specs.declared.note.NoteBody.{NoteBody}
+use Rattle.ov_model.specs.declared.note.NoteBody.TheVariants as body
+
+-- A whole number, a text, a list of numbers.
+abbrev pub num : ℕ → Data
+num n = number (unsigned n)
+
+abbrev pub put_num : List ℕ → ℕ → Members → Members
+put_num name n ms = put name (num n) ms
+
+abbrev pub put_text : List ℕ → List ℕ → Members → Members
+put_text name s ms = put name (string s) ms
+
+abbrev pub nums : List ℕ → Data
+nums ns = array (items_of (map num ns))
+
+-- An object with one name.
+abbrev pub one : List ℕ → Data → Data
+one name d = object (put name d no_members)
+
+-- The text of a line.
+abbrev pub line_text : Data → List ℕ
+line_text d = compact_text d ++ 10 ∷ []
+
+-- The names of the operations and of the table's own steps.
+abbrev pub call_name : Act → List ℕ
+call_name (act.Do (command.PeerNew a)) = codes "peer-new"
+call_name (act.Do (command.PeerGet id)) = codes "peer-get"
+call_name (act.Do (command.Remove id r)) = codes "remove"
+call_name (act.Released serial) = codes "released"
+
+-- Linux's numbers: ENOENT, EEXIST, EINVAL, ENOSPC.
+abbrev pub errno_number : Errno → ℕ
+errno_number NoEntry = 2
+errno_number Exists = 17
+errno_number Invalid = 22
+errno_number NoSpace = 28
+
+abbrev pub reason_name : Reason → List ℕ
+reason_name reason.Teardown = codes "teardown"
+reason_name reason.Userspace = codes "userspace"
+reason_name reason.Expired = codes "expired"
+reason_name reason.TransportError = codes "transport-error"
+reason_name reason.TransportDisconnect = codes "transport-disconnect"
+
+-- A remote transport: IPv4 in dotted decimal, IPv6 as 32 hexadecimal digits.
+abbrev pub put_remote_addr : Addr → Members → Members
+put_remote_addr (V4 a) ms = put_text (codes "remote-ipv4") (ipv4_text a) ms
+put_remote_addr (V6 a) ms = put_text (codes "remote-ipv6") (encode_lower a) ms
+
+abbrev pub put_remote : Transport → Members → Members
+put_remote t ms = put_num (codes "remote-port") t.port (put_remote_addr t.addr ms)
+
+abbrev pub put_vpn4 : Option (List ℕ) → Members → Members
+put_vpn4 None ms = ms
+put_vpn4 (Some a) ms = put_text (codes "vpn-ipv4") (ipv4_text a) ms
+
+abbrev pub put_vpn6 : Option (List ℕ) → Members → Members
+put_vpn6 None ms = ms
+put_vpn6 (Some a) ms = put_text (codes "vpn-ipv6") (encode_lower a) ms
+
+unfoldable pub put_counts : Counts → Members → Members
+put_counts c ms =
+    put_num (codes "vpn-tx-packets") c.vpn_tx_packets
+    (put_num (codes "vpn-tx-bytes") c.vpn_tx_bytes
+    (put_num (codes "vpn-rx-packets") c.vpn_rx_packets
+    (put_num (codes "vpn-rx-bytes") c.vpn_rx_bytes
+    (put_num (codes "link-tx-packets") c.link_tx_packets
+    (put_num (codes "link-tx-bytes") c.link_tx_bytes
+    (put_num (codes "link-rx-packets") c.link_rx_packets
+    (put_num (codes "link-rx-bytes") c.link_rx_bytes ms)))))))
+
+-- What peer-get shows.
+unfoldable pub view_members : PeerView → Members
+view_members v =
+    put_vpn6 v.vpn6
+    (put_vpn4 v.vpn4
+    (put_remote v.remote
+    (put_num (codes "keepalive-timeout") v.keepalive.timeout
+    (put_num (codes "keepalive-interval") v.keepalive.interval
+    (put_num (codes "id") v.id.number
+    (put_counts v.counts no_members))))))
+
+abbrev pub reply_data : Reply → Data
+reply_data (reply.Made n) = one (codes "serial") (num n)
+reply_data (reply.Peer v) = one (codes "peer") (object (view_members v))
+reply_data (reply.Removed ns) = one (codes "removed") (nums ns)
+reply_data (reply.Released n) = one (codes "released") (num n)
+reply_data (reply.Refused e) = one (codes "error") (num (errno_number e))
+
+abbrev pub answer_data : Answer → Data
+answer_data (answer.Reply r) = reply_data r
+
+-- An entry of the journal with its number from 0.
+unfoldable pub entry_data : ℕ → Entry → Data
+entry_data n e = object
+    (put (codes "reply") (reply_data e.reply)
+    (put_num (codes "line") e.place.line
+    (put_num (codes "lane") e.place.lane
+    (put_num (codes "journal") n
+    (put_text (codes "call") (call_name e.call.act)
+    (put_num (codes "at") e.call.at no_members))))))
+
+abbrev pub entry_text : ℕ → Entry → List ℕ
+entry_text n e = line_text (entry_data n e)
+
+-- The answer of a lane's line.
+unfoldable pub answered_data : ℕ → ℕ → Answer → Data
+answered_data lane line a = object
+    (put_num (codes "line") line
+    (put_num (codes "lane") lane
+    (put (codes "answer") (answer_data a) no_members)))
+
+abbrev pub answer_text : ℕ → ℕ → Answer → List ℕ
+answer_text lane line a = line_text (answered_data lane line a)
+
+-- A notification, with the number of the entry that made it.
+abbrev pub note_members : NoteBody → Members
+note_members (body.PeerDel id r) =
+    put (codes "peer") (object (put_num (codes "id") id.number (put_text (codes "del-reason") (reason_name r) no_members)))
+    (put_text (codes "notify") (codes "peer-del-ntf") no_members)
+note_members (body.KeySwap id key_id) =
+    put (codes "keyconf") (object (put_num (codes "peer-id") id.number (put_num (codes "key-id") key_id.number no_members)))
+    (put_text (codes "notify") (codes "key-swap-ntf") no_members)
+
+unfoldable pub note_data : Note → Data
+note_data n = object (put_num (codes "journal") n.entry (note_members n.body))
+
+abbrev pub note_text : Note → List ℕ
+note_text n = line_text (note_data n)
