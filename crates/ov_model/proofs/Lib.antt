@@ -1,2 +1,3 @@
 pub mod PeerIds
 pub mod Going
+pub mod Lanes

@@ -1,5 +1,6 @@
 -- What every report must be.
-use Rattle.std.specs.Prelude.{ℕ, ◌+◌, ◌-◌, ◌≡◌, ◌<◌, ◌≤◌, List, [], ◌∷◌, ◌++◌, Option, Some, None, Bool, ◌==◌, filter, map, take, length, slice_get, All}
+use Rattle.std.specs.Prelude.{ℕ, ◌+◌, ◌-◌, ◌≡◌, ◌<◌, ◌≤◌, List, [], ◌∷◌, ◌++◌, Option, Some, None, Bool, ◌==◌, filter, map, take, length, slice_get}
+use Rattle.std.specs.List.{AllByRecursion}
 use Rattle.ov_base.specs.declared.address.Addr.{Addr}
 use Rattle.ov_model.specs.declared.place.Place.{Place}
 use Rattle.ov_model.specs.declared.entry.Entry.{Entry}
@@ -26,7 +27,7 @@ pub record LaneMatches (lines : List Line) (lane : ℕ) (log : LaneLog) : Type 0
 
 -- Lanes and their lines: each line of the script has a lane of the report, and each log matches.
 pub record LanesMatch (script : Script) (report : Report) : Type 0 where
-  pub within : All (λ line. line.lane < length report.lanes) script.lines
+  pub within : AllByRecursion (λ line. line.lane < length report.lanes) script.lines
   pub each : (lane : ℕ) (log : LaneLog) → slice_get report.lanes lane ≡ Some log → LaneMatches script.lines lane log
 
 -- The journal is a run of the serial peer table, and the notes are those of the run.
@@ -45,12 +46,14 @@ pub record Meets (material : ℕ → Option Material) (via : Addr → Addr) (ste
 -- Along the steps, the line numbers of a lane never fall: none after a step of line n is below n.
 abbrev pub NeverFall : ℕ → List Step → Type 0
 NeverFall lane [] = Unit {0}
-NeverFall lane (s ∷ steps) = (s.entry.place.lane ≡ lane → All (λ later. later.entry.place.lane ≡ lane → s.entry.place.line ≤ later.entry.place.line) steps) × NeverFall lane steps
+NeverFall lane (s ∷ steps) = (s.entry.place.lane ≡ lane → AllByRecursion (λ later. later.entry.place.lane ≡ lane → s.entry.place.line ≤ later.entry.place.line) steps) × NeverFall lane steps
 
 -- A lane of which the first lines are answered and the next one, if it began, has made the steps
--- `now` so far. At the end of a run nothing is under way, and `now` is empty.
+-- `now` and the replay steps `judged` so far; no step is of a later line. At the end of a run nothing
+-- is under way and both are empty, so that each step of the lane is of an answered line.
 pub record LaneMeets (material : ℕ → Option Material) (via : Addr → Addr) (steps : List Step) (shards : List (List ReplayEntry)) (lane : ℕ) (lines : List Line) (answers : List Answer) (now : List Step) (judged : List Judgement) : Type 0 where
-  pub within : All (λ s. s.entry.place.lane ≡ lane → s.entry.place.line ≤ length answers) steps
+  pub within : AllByRecursion (λ s. s.entry.place.lane ≡ lane → s.entry.place.line ≤ length answers) steps
+  pub judged_within : AllByRecursion (λ shard. AllByRecursion (λ r. r.place.lane ≡ lane → r.place.line ≤ length answers) shard) shards
   pub falls : NeverFall lane steps
   pub each : (i : ℕ) → i < length answers → Meets material via steps shards lane lines answers i
   pub under_way : of steps lane (length answers) ≡ now
@@ -59,7 +62,7 @@ pub record LaneMeets (material : ℕ → Option Material) (via : Addr → Addr) 
 -- Lines and steps: each step has a lane and a line of the report, in each lane the lines' numbers
 -- never fall along the journal, and each line has a path.
 pub record LinesFollowPath (material : ℕ → Option Material) (via : Addr → Addr) (report : Report) : Type 0 where
-  pub within : All (λ s. s.entry.place.lane < length report.lanes) (steps_of report.journal)
+  pub within : AllByRecursion (λ s. s.entry.place.lane < length report.lanes) (steps_of report.journal)
   pub each : (lane : ℕ) (log : LaneLog) → slice_get report.lanes lane ≡ Some log → LaneMeets material via (steps_of report.journal) report.shards lane log.lines log.answers [] []
 
 -- A script's report. No key is made yet, and without routes the next hop of an address is itself.

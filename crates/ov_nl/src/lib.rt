@@ -1,0 +1,6 @@
+//! The attribute checks of the netlink family: a message becomes a command or is refused.
+#![tactic(auto)]
+
+pub mod call;
+
+pub use call::call_of;
