@@ -1,1 +1,4 @@
 pub mod Address
+pub mod InMemory
+pub mod Lends
+pub mod Outside
