@@ -1,0 +1,44 @@
+-- The peer table together with its record: what it is now, its journal and its notes.
+use Rattle.std.specs.Prelude.{ℕ, ◌+◌, ◌≡◌, List, [], ◌∷◌, ◌++◌, length, Bool, true, false}
+use Rattle.ov_model.specs.declared.place.Place.{Place}
+use Rattle.ov_model.specs.declared.act.Act.{Act}
+use Rattle.ov_model.specs.declared.act.Act.TheVariants as act
+use Rattle.ov_model.specs.declared.act.Call.{Call}
+use Rattle.ov_model.specs.declared.entry.Entry.{Entry}
+use Rattle.ov_model.specs.declared.note.Note.{Note}
+use Rattle.ov_model.specs.Tables.{Table, empty_table}
+use Rattle.ov_model.specs.Step.{step}
+use Rattle.ov_model.specs.Runs.{IsRun, last_table, notes_of, numbered}
+
+-- now: the table after all steps so far; journal: their entries; notes: their notifications.
+pub record Recorded : Type 0 where
+  pub now : Table
+  pub journal : List Entry
+  pub notes : List Note
+
+-- No step was made yet.
+abbrev pub no_steps : Recorded
+no_steps = record { now = empty_table; journal = []; notes = [] }
+
+-- The entry of a call that is made at some table.
+abbrev pub entry_of : Table → Place → Call → Entry
+entry_of t place call = record { place = place; call = call; reply = (step t call).reply }
+
+-- One step further: the serial step, its one entry, and its notes with the entry's number.
+abbrev pub stepped : Recorded → Place → Call → Recorded
+stepped r place call = record { now = (step r.now call).after; journal = r.journal ++ entry_of r.now place call ∷ []; notes = r.notes ++ numbered (length r.journal) (step r.now call).notes }
+
+-- The journal is a run, the table is the run's last one, and the notes are the run's.
+pub record IsTold (r : Recorded) : Type 0 where
+  pub run : IsRun r.journal
+  pub last : last_table r.journal ≡ r.now
+  pub notes : r.notes ≡ notes_of r.journal
+
+-- Whether a call lets a removed peer go.
+abbrev pub is_release : Act → Bool
+is_release (act.Do c) = false
+is_release (act.Released serial) = true
+
+-- How many peers aren't let go yet.
+abbrev pub unreleased : Table → ℕ
+unreleased t = length t.live + length t.dying
