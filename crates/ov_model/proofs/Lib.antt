@@ -1,3 +1,4 @@
 pub mod PeerIds
 pub mod Going
 pub mod Lanes
+pub mod Removing
