@@ -1,12 +1,13 @@
 //! Running lines on the peer table, each to its end.
 
-ghost use Rattle.std.specs.Prelude.{◌≡◌, [], ◌∷◌, map, drop, IfOk, OnErr};
+ghost use Rattle.std.specs.Prelude.{◌≡◌, [], ◌∷◌, map, drop, length, IfOk, OnOk, OnErr};
 ghost use Rattle.ov_model.specs.declared.hold.Owed.TheVariants as owed;
 ghost use Rattle.ov_model.specs.declared.line.Deed.TheVariants as deeds;
 ghost use Rattle.ov_model.specs.Events.{release_of, releases};
 ghost use Rattle.ov_model.specs.Path as path;
 ghost use Rattle.ov_model.proofs.Removing.{serials};
-ghost use Rattle.ov_run.specs.Ran.{Goes, Obeyed, Ran};
+ghost use Rattle.ov_run.specs.Ran.{Goes, Obeyed, Ran, Answered};
+ghost use Rattle.ov_table.specs.Recorded.{no_steps};
 
 use ov_base::Memory;
 use ov_model::{Act, Answer, Call, Command, Deed, Line, NlMessage, Place, Reply};
@@ -86,4 +87,22 @@ pub fn run_line(table: &mut Table, place: Place, line: &Line) -> Result<Answer, 
             Ok(Answer::Reply(reply))
         }
     }
+}
+
+/// Runs the lines of lane 0 in order, each to its end, and appends their answers.
+pub fn run_lines(table: &mut Table, lines: &[Line], answers: &mut Vec<Answer>) -> Result<(), Memory>
+    requires fresh { table.old ≡ no_steps }
+    requires unanswered { answers.old.items ≡ [] }
+    ensures answered { OnOk result (Answered table.new lines.now answers.new.items) }
+    ensures all { OnOk result (length answers.new.items ≡ length lines.now) }
+{
+    for line in lines {
+        let place = Place {
+            lane: 0,
+            line: answers.as_slice().len() as u64,
+        };
+        let answer = run_line(table, place, line)?;
+        answers.push(answer)?;
+    }
+    Ok(())
 }
