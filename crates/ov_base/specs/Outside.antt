@@ -38,9 +38,9 @@ TookFits (took.Bytes n) piece = (1 ≤ n) × (n ≤ length piece)
 TookFits took.Failed piece = ⊤
 
 -- the bytes taken are appended, and none where the write failed
-abbrev pub WriteAppends : Option (List ℕ) → Option (List ℕ) → Took → List ℕ → Type 0
-WriteAppends old new (took.Bytes n) piece = Appends old new (take n piece)
-WriteAppends old new took.Failed piece = Keeps old new
+abbrev pub WriteAdds : Option (List ℕ) → Option (List ℕ) → Took → List ℕ → Type 0
+WriteAdds old new (took.Bytes n) piece = Appends old new (take n piece)
+WriteAdds old new took.Failed piece = Keeps old new
 
 -- the count of faults never falls, and a write fails only where it rose
 pub record TookCause (before now : ℕ) (result : Took) : Type 0 where
@@ -59,6 +59,6 @@ faults_after_write before (took.Bytes n) = before
 faults_after_write before took.Failed = one_more before
 
 -- what is known of a source or a sink over std: what is left or written, where told, and the faults
-pub record Stream : Type 0 where
+pub record Adapter : Type 0 where
   pub bytes : Option (List ℕ)
   pub faults : ℕ

@@ -29,7 +29,7 @@ impl Failures {
     }
 
     /// Counts a call, and a fault where it is planned to fail. Answers whether it is.
-    pub fn call(&mut self) -> bool
+    pub fn count_call(&mut self) -> bool
         ensures fails { result ≡ is_planned self.old }
         ensures after { self.new ≡ after_call self.old }
         ensures later { self.old.faults ≤ self.new.faults }
@@ -37,13 +37,13 @@ impl Failures {
         let fails = self.planned.as_slice().contains(&self.calls);
         self.calls = self.calls.saturating_add(1);
         if fails {
-            self.fault();
+            self.count_fault();
         }
         fails
     }
 
     /// Counts a fault that wasn't planned, as want of memory.
-    pub fn fault(&mut self)
+    pub fn count_fault(&mut self)
         ensures after { self.new ≡ after_fault self.old }
         ensures later { self.old.faults ≤ self.new.faults }
     {

@@ -14,6 +14,8 @@ pub mod sink;
 pub mod source;
 pub mod steady_sink;
 pub mod steady_source;
+#[cfg(test)]
+mod tests;
 pub mod write_sink;
 pub mod writing;
 

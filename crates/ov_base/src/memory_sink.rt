@@ -1,7 +1,7 @@
 //! A sink in memory that keeps what it takes, and whose calls fail where planned.
 
 ghost use Rattle.std.specs.Prelude.{◌≡◌, ◌<◌, [], Some, IsTrue, length};
-ghost use Rattle.ov_base.specs.Outside.{TookFits, WriteAppends, TookCause};
+ghost use Rattle.ov_base.specs.Outside.{TookFits, WriteAdds, TookCause};
 ghost use Rattle.ov_base.specs.InMemory.{is_planned, TakesMost, sink_after};
 
 use crate::failures::Failures;
@@ -64,20 +64,20 @@ impl Sink for MemorySink {
     fn write(&mut self, piece: &[u8]) -> Took
         requires { 0 < length piece.now }
         ensures fits { TookFits result piece.now }
-        ensures bytes { WriteAppends (Some self.old.written) (Some self.new.written) result piece.now }
+        ensures bytes { WriteAdds (Some self.old.written) (Some self.new.written) result piece.now }
         ensures cause { TookCause self.old.failures.faults self.new.failures.faults result }
         ensures planned { IsTrue (is_planned self.old.failures) → result ≡ Took.Failed }
         ensures count { TakesMost self.old.piece piece.now result }
         ensures after { self.new ≡ sink_after self.old piece.now result }
     {
-        if self.failures.call() {
+        if self.failures.count_call() {
             return Took::Failed;
         }
         let count = self.piece.min(piece.len());
         match self.written.extend_from_slice(&piece[..count]) {
             Ok(()) => Took::Bytes(count),
             Err(_) => {
-                self.failures.fault();
+                self.failures.count_fault();
                 Took::Failed
             }
         }

@@ -62,7 +62,7 @@ impl Source for MemorySource {
         ensures answer { result ≡ got_of self.old (length buf.old) }
         ensures after { self.new ≡ source_after self.old result }
     {
-        if self.failures.call() {
+        if self.failures.count_call() {
             return Got::Failed;
         }
         self.steady.read(buf)

@@ -15,9 +15,9 @@ pub struct ReadSource<R: Read> {
 }
 
 impl<R: Read> Model for ReadSource<R> {
-    ghost use Rattle.ov_base.specs.Outside.{Stream};
+    ghost use Rattle.ov_base.specs.Outside.{Adapter};
 
-    ghost Value = { Stream };
+    ghost Value = { Adapter };
 
     ghost view = { λ s. record { bytes = R.remaining s.reader; faults = s.faults } };
 }

@@ -2,7 +2,7 @@
 
 ghost use Rattle.std.specs.Prelude.{ℕ, List, ◌<◌, length};
 ghost use Rattle.std.specs.declared.option.Option.{Option};
-ghost use Rattle.ov_base.specs.Outside.{TookFits, WriteAppends, TookCause};
+ghost use Rattle.ov_base.specs.Outside.{TookFits, WriteAdds, TookCause};
 
 /// What one write took.
 #[derive(Clone, Copy, Debug, PartialEq, Eq)]
@@ -27,6 +27,6 @@ pub trait Sink {
     fn write(&mut self, piece: &[u8]) -> Took
         requires { 0 < length piece.now }
         ensures fits { TookFits result piece.now }
-        ensures bytes { WriteAppends (written self.old) (written self.new) result piece.now }
+        ensures bytes { WriteAdds (written self.old) (written self.new) result piece.now }
         ensures cause { TookCause (faults self.old) (faults self.new) result };
 }

@@ -1,7 +1,7 @@
 //! A sink that never fails and keeps nothing.
 
 ghost use Rattle.std.specs.Prelude.{◌≡◌, ◌<◌, None, length, min};
-ghost use Rattle.ov_base.specs.Outside.{TookFits, WriteAppends, TookCause};
+ghost use Rattle.ov_base.specs.Outside.{TookFits, WriteAdds, TookCause};
 
 use crate::sink::{Sink, Took};
 use std::marker::Model;
@@ -43,7 +43,7 @@ impl Sink for SteadySink {
     fn write(&mut self, piece: &[u8]) -> Took
         requires { 0 < length piece.now }
         ensures fits { TookFits result piece.now }
-        ensures bytes { WriteAppends None None result piece.now }
+        ensures bytes { WriteAdds None None result piece.now }
         ensures cause { TookCause 0 0 result }
         ensures answer { result ≡ Took.Bytes (min self.old (length piece.now)) }
         ensures same { self.new ≡ self.old }

@@ -1,7 +1,7 @@
 //! A sink over a writer of std, as standard output or a file.
 
 ghost use Rattle.std.specs.Prelude.{◌≡◌, ◌<◌, length};
-ghost use Rattle.ov_base.specs.Outside.{TookFits, WriteAppends, TookCause, faults_after_write};
+ghost use Rattle.ov_base.specs.Outside.{TookFits, WriteAdds, TookCause, faults_after_write};
 
 use crate::sink::{Sink, Took};
 use std::io::Write;
@@ -16,9 +16,9 @@ pub struct WriteSink<W: Write> {
 }
 
 impl<W: Write> Model for WriteSink<W> {
-    ghost use Rattle.ov_base.specs.Outside.{Stream};
+    ghost use Rattle.ov_base.specs.Outside.{Adapter};
 
-    ghost Value = { Stream };
+    ghost Value = { Adapter };
 
     ghost view = { λ s. record { bytes = W.contents s.writer; faults = s.faults } };
 }
@@ -42,7 +42,7 @@ impl<W: Write> Sink for WriteSink<W> {
     fn write(&mut self, piece: &[u8]) -> Took
         requires { 0 < length piece.now }
         ensures fits { TookFits result piece.now }
-        ensures bytes { WriteAppends self.old.bytes self.new.bytes result piece.now }
+        ensures bytes { WriteAdds self.old.bytes self.new.bytes result piece.now }
         ensures cause { TookCause self.old.faults self.new.faults result }
         ensures count { self.new.faults ≡ faults_after_write self.old.faults result }
     {

@@ -1,0 +1,211 @@
+use crate::{
+    Addr, Got, ListOf, Memory, MemorySink, MemorySource, Octets, ReadEnd, ReadSource, Sink, Source,
+    SteadySink, SteadySource, Taken, Took, Transport, WriteFault, WriteSink, read_to_end,
+    write_all,
+};
+use std::alloc::Global;
+use std::io;
+use std::io::{ErrorKind, Read, Write};
+use std::test::Fail;
+
+const TEXT: &[u8] = b"0123456789abcdefghijklmnopqrstuvwxyzABCD";
+
+fn numbers(alloc: Global, items: &[u64]) -> Result<ListOf<u64>, Memory> {
+    let items = Vec::from_slice(alloc, items)?;
+    Ok(ListOf::of_vec(items))
+}
+
+#[test]
+fn a_list_keeps_its_items_in_order(rt: HostRuntime) -> Result<(), Fail> {
+    let mut list: Octets = ListOf::new(rt.alloc());
+    assert!(rt; list.is_empty());
+    for item in [3, 1, 2] {
+        assert!(rt; list.push(item).is_ok());
+    }
+    assert_eq!(rt; list.len(), 3);
+    list.as_mut_slice()[1] = 9;
+    assert_eq!(rt; list.as_slice(), [3, 9, 2].as_slice());
+    let copy = Octets::of(rt.alloc(), list.as_slice())?;
+    assert!(rt; copy == list);
+    assert_eq!(rt; list.into_vec().as_slice(), [3, 9, 2].as_slice());
+    Ok(())
+}
+
+#[test]
+fn an_address_is_none_of_another_family_or_port(rt: HostRuntime) {
+    let four = Addr::V4([10, 8, 0, 2]);
+    let other = Addr::V4([10, 8, 0, 3]);
+    let six = Addr::V6([10, 8, 0, 2, 0, 0, 0, 0, 0, 0, 0, 0, 0, 0, 0, 0]);
+    for (a, b, same) in [
+        (four, four, true),
+        (four, other, false),
+        (four, six, false),
+        (six, six, true),
+    ] {
+        assert_eq!(rt; a.is(b), same, "{a:?} and {b:?}");
+        let at = Transport {
+            addr: a,
+            port: 1194,
+        };
+        assert_eq!(rt;
+            at.is(Transport {
+                addr: b,
+                port: 1194
+            }),
+            same
+        );
+        assert!(rt;
+            !at.is(Transport {
+                addr: b,
+                port: 1195
+            })
+        );
+    }
+}
+
+#[test]
+fn a_source_gives_pieces_and_fails_where_planned(rt: HostRuntime) -> Result<(), Fail> {
+    let text = TEXT;
+    assert_eq!(rt; text.len(), 40);
+    let failing = numbers(rt.alloc(), &[1, 3])?;
+    let mut source = MemorySource::new(Octets::of(rt.alloc(), TEXT)?, 16, failing);
+    let expected: [(Got, &[u8]); 7] = [
+        (Got::Bytes(16), &text[16..]),
+        (Got::Failed, &text[16..]),
+        (Got::Bytes(16), &text[32..]),
+        (Got::Failed, &text[32..]),
+        (Got::Bytes(8), &[]),
+        (Got::End, &[]),
+        (Got::End, &[]),
+    ];
+    let mut buffer = [0u8; 64];
+    for (answer, left) in expected {
+        assert_eq!(rt; source.read(&mut buffer), answer);
+        assert_eq!(rt; source.left(), left);
+    }
+    assert_eq!(rt; &buffer[..8], &text[32..]);
+    Ok(())
+}
+
+/// What is read of the text in pieces of 16 bytes, of which at most `most` are to be taken.
+fn reading(alloc: Global, failing: &[u64], most: usize) -> Result<Taken, Memory> {
+    let failing = numbers(alloc, failing)?;
+    let text = Octets::of(alloc, TEXT)?;
+    let mut source = MemorySource::new(text, 16, failing);
+    Ok(read_to_end(alloc, &mut source, most))
+}
+
+#[test]
+fn reading_ends_at_the_end_the_limit_or_a_fault(rt: HostRuntime) -> Result<(), Fail> {
+    let text = TEXT;
+    assert_eq!(rt; text.len(), 40);
+    let none: &[u64] = &[];
+    let expected: [(&[u64], usize, ReadEnd, &[u8]); 9] = [
+        (none, 40, ReadEnd::Whole, TEXT),
+        (none, 39, ReadEnd::Limit, TEXT),
+        (none, 32, ReadEnd::Limit, TEXT),
+        (none, 31, ReadEnd::Limit, &text[..32]),
+        (none, 0, ReadEnd::Limit, &text[..16]),
+        (&[0], 40, ReadEnd::Fault, &[]),
+        (&[2, 1], 40, ReadEnd::Fault, &text[..16]),
+        (&[3], 40, ReadEnd::Fault, TEXT),
+        (&[4], 40, ReadEnd::Whole, TEXT),
+    ];
+    for (failing, most, end, bytes) in expected {
+        let taken = reading(rt.alloc(), failing, most)?;
+        assert_eq!(rt; taken.end, end, "at most {most}, failing {failing:?}");
+        assert_eq!(rt; taken.bytes.as_slice(), bytes);
+    }
+    Ok(())
+}
+
+#[test]
+fn a_sink_that_fails_has_taken_a_prefix(rt: HostRuntime) -> Result<(), Fail> {
+    let text = TEXT;
+    assert_eq!(rt; text.len(), 40);
+    let expected: [(u64, Result<(), WriteFault>, &[u8]); 4] = [
+        (0, Err(WriteFault), &[]),
+        (1, Err(WriteFault), &text[..16]),
+        (2, Err(WriteFault), &text[..32]),
+        (3, Ok(()), TEXT),
+    ];
+    for (failing, answer, written) in expected {
+        let failing = numbers(rt.alloc(), &[failing])?;
+        let mut sink = MemorySink::new(rt.alloc(), 16, failing);
+        assert_eq!(rt; write_all(&mut sink, TEXT), answer);
+        assert_eq!(rt; sink.written(), written);
+    }
+    Ok(())
+}
+
+#[test]
+fn the_steady_ones_give_and_take_all(rt: HostRuntime) -> Result<(), Fail> {
+    let mut source = SteadySource::new(Octets::of(rt.alloc(), TEXT)?, 7);
+    let taken = read_to_end(rt.alloc(), &mut source, 40);
+    assert_eq!(rt; taken.end, ReadEnd::Whole);
+    assert_eq!(rt; taken.bytes.as_slice(), TEXT);
+    assert!(rt; source.left().is_empty());
+    let mut sink = SteadySink::new(7);
+    assert_eq!(rt; sink.write(TEXT), Took::Bytes(7));
+    assert_eq!(rt; write_all(&mut sink, TEXT), Ok(()));
+    Ok(())
+}
+
+#[test]
+fn a_reader_and_a_writer_of_std_carry_the_text(rt: HostRuntime) -> Result<(), Fail> {
+    let mut source = ReadSource::new(TEXT);
+    let taken = read_to_end(rt.alloc(), &mut source, 40);
+    assert_eq!(rt; taken.end, ReadEnd::Whole);
+    let mut written = Vec::new(rt.alloc());
+    let mut sink = WriteSink::new(&mut written);
+    assert_eq!(rt; write_all(&mut sink, taken.bytes.as_slice()), Ok(()));
+    assert_eq!(rt; written.as_slice(), TEXT);
+    Ok(())
+}
+
+/// Reads and takes one byte a call, and then answers an error or that there was no room.
+#[derive(Drop)]
+struct Broken {
+    calls: usize,
+}
+
+impl Read for Broken {
+    fn read(&mut self, buf: &mut [u8]) -> io::Result<usize> {
+        match self.calls {
+            0 => Err(ErrorKind::Interrupted.into()),
+            _ if buf.is_empty() => Ok(0),
+            left => {
+                self.calls = left - 1;
+                buf[0] = b'x';
+                Ok(1)
+            }
+        }
+    }
+}
+
+impl Write for Broken {
+    fn write(&mut self, buf: &[u8]) -> io::Result<usize> {
+        match self.calls {
+            0 => Ok(0),
+            left => {
+                self.calls = left - 1;
+                Ok(buf.len().min(1))
+            }
+        }
+    }
+
+    fn flush(&mut self) -> io::Result<()> {
+        Ok(())
+    }
+}
+
+#[test]
+fn an_error_of_std_is_a_fault_and_so_is_a_full_writer(rt: HostRuntime) {
+    let mut source = ReadSource::new(Broken { calls: 2 });
+    let taken = read_to_end(rt.alloc(), &mut source, 40);
+    assert_eq!(rt; taken.end, ReadEnd::Fault);
+    assert_eq!(rt; taken.bytes.as_slice(), b"xx".as_slice());
+    let mut sink = WriteSink::new(Broken { calls: 2 });
+    assert_eq!(rt; write_all(&mut sink, b"yy"), Ok(()));
+    assert_eq!(rt; sink.write(b"y"), Took::Failed);
+}
