@@ -1,8 +1,9 @@
 -- What becomes of a sum over a list, and of a fact of each member, where one member changes or one more is appended.
-use Rattle.std.proofs.Common.{◌≡◌, ℕ, zero, suc, ◌+◌, ◌≤◌, ◌≢◌, List, [], ◌∷◌, ◌++◌, set, sym, refl, ap, subst, arith}
+use Rattle.std.proofs.Common.{◌≡◌, ℕ, zero, suc, ◌+◌, ◌<◌, ◌≤◌, ◌≢◌, List, [], ◌∷◌, ◌++◌, set, sym, refl, ap, subst, arith}
 use mathlib.Core.Option.{some, some-injective, some-ne-none}
 use lib.ListN.{get_elem?}
-use Rattle.ov_base.specs.Sums.{total}
+use Rattle.std.proofs.lemmas.Bool.Decides.{nat_tests}
+use Rattle.ov_base.specs.Sums.{total, between}
 
 module _ {A : Type 0} where
   -- Sums.
@@ -76,3 +77,20 @@ module _ {A : Type 0} where
   each_snoc F [] w new old (suc j) u e = absurd (some-ne-none u (sym e))
   each_snoc F (x ∷ xs) w new old zero u e = old zero u e
   each_snoc F (x ∷ xs) w new old (suc j) u e = each_snoc F xs w new (λ k y d. old (suc k) y d) j u e
+
+-- Numbers between two.
+pub between_in : (first end n : ℕ) → first ≤ n → n < end → between first end n ≡ 1
+between_in first end n from below = grind (arith, nat_tests)
+
+pub between_out : (first end n : ℕ) → (first ≤ n → end ≤ n) → between first end n ≡ 0
+between_out first end n out = grind (arith, nat_tests)
+
+pub between_le : (first end n : ℕ) → between first end n ≤ 1
+between_le first end n = grind (arith, nat_tests)
+
+pub between_is : (first end n : ℕ) → 0 < between first end n → (first ≤ n) × (n < end)
+between_is first end n some_of = grind (arith, nat_tests)
+
+-- one more number
+pub between_more : (first end n : ℕ) → first ≤ end → between first (end + 1) n ≡ between first end n + between end (end + 1) n
+between_more first end n le = grind (arith, nat_tests)
