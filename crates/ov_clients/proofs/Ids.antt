@@ -1,13 +1,13 @@
 -- From what each of two threads has drawn, and from what the one seat that is left knows, to the ids of both.
-use Rattle.std.proofs.Common.{◌≡◌, ◌≢◌, ℕ, zero, suc, ◌+◌, ◌*◌, ◌<◌, ◌≤◌, List, [], ◌∷◌, ◌++◌, map, length, sym, refl, ap, ◌∙◌, subst, inl, inr, ⊎_elim, arith, length-append}
-use Rattle.std.specs.Prelude.{Contains, nat_lt, if◌then◌else◌, ◌==◌, ◌&&◌}
+use Rattle.std.proofs.Common.{◌≡◌, ℕ, zero, suc, ◌+◌, ◌*◌, ◌<◌, ◌≤◌, List, [], ◌∷◌, ◌++◌, map, length, sym, refl, ap, ◌∙◌, subst, arith, length-append}
+use Rattle.std.specs.Prelude.{nat_lt, if◌then◌else◌, ◌==◌}
 use Rattle.std.proofs.lemmas.Bool.Decides.{nat_tests}
 use Rattle.std.proofs.lemmas.List.Elements.{Contains-append_left, Contains-append_right}
 use mathlib.Core.Logic.{dite}
 use mathlib.Core.List.{map-append}
 use native.Mathlib.Decide.{dec_le}
 use Rattle.ov_base.specs.Sums.{total, between, count_of}
-use Rattle.ov_base.proofs.Sums.{between_in, between_out, between_is}
+use Rattle.ov_base.proofs.Sums.{between_in, between_out}
 use Rattle.ov_draw.specs.Drawer.{Counters, Drawer, times, IsEnded}
 use Rattle.ov_clients.specs.Ids.{HasDrawn}
 
@@ -79,14 +79,14 @@ all_ids counters s t count one two ids others a b ended few n =
     let counted = a.counted in
     let also = b.counted in
     let one_unspent : length one.spent ≡ 0 = dite (dec_le 1 (length one.spent))
-        (λ some_of. absurd (omega (arith, e.3 (Contains-append_left one.spent two.spent 0 (a.spent some_of)), full)))
-        (λ none_of. omega arith) in
+    (λ some_of. absurd (omega (arith, e.3 (Contains-append_left one.spent two.spent 0 (a.spent some_of)), full)))
+    (λ none_of. omega arith) in
     let two_unspent : length two.spent ≡ 0 = dite (dec_le 1 (length two.spent))
-        (λ some_of. absurd (omega (arith, e.3 (Contains-append_right one.spent two.spent 0 (b.spent some_of)), full)))
-        (λ none_of. omega arith) in
+    (λ some_of. absurd (omega (arith, e.3 (Contains-append_right one.spent two.spent 0 (b.spent some_of)), full)))
+    (λ none_of. omega arith) in
     dite (dec_le 1 end)
-        (λ some_of. let is : end ≡ 2 * count + 1 = omega arith in each n ∙ ap (λ (k : ℕ). between 1 k n) is)
-        (λ none_of.
-          let no : length all ≡ 0 = length-none all end each (omega arith) in
-          let is : 2 * count + 1 ≡ 1 = omega arith in
-          each n ∙ between_out 1 end n (λ _. omega arith) ∙ sym (between_out 1 (2 * count + 1) n (λ lt. omega arith)))
+    (λ some_of. let is : end ≡ 2 * count + 1 = omega arith in each n ∙ ap (λ (k : ℕ). between 1 k n) is)
+    (λ none_of.
+    let no : length all ≡ 0 = length-none all end each (omega arith) in
+    let is : 2 * count + 1 ≡ 1 = omega arith in
+    each n ∙ between_out 1 end n (λ _. omega arith) ∙ sym (between_out 1 (2 * count + 1) n (λ lt. omega arith)))

@@ -17,6 +17,7 @@ const END: u64 = 4_294_967_296;
 
 /// 65,536 counters that threads draw packet ids from, one for each key.
 ///
+/// A packet id is part of the nonce, and no nonce may serve twice under one key (SP 800-38D, section 8).
 /// Contracts see which counters they are and the number at which each begins.
 #[derive(Drop)]
 pub struct Draws {
