@@ -9,3 +9,6 @@ mod room;
 pub mod table;
 
 pub use table::Table;
+
+#[cfg(test)]
+mod tests;

@@ -92,7 +92,8 @@ impl Peers {
         }
     }
 
-    /// peer-new: the new peer's remote must be given.
+    /// peer-new. Refused in this order: without a remote or a VPN address it is invalid; the id, a VPN
+    /// address or the remote of another live peer exists; and then there may be no space.
     #[tactic(auto, unfolding(ov_model::specs::Step::peer_new))]
     fn peer_new(&mut self, now: u32, attrs: &Attrs) -> Result<Outcome, Memory>
         ensures ok { IfOk result (λ o. outcome self.new o.reply o.note ≡ model.peer_new self.old now attrs.now) }
@@ -126,7 +127,7 @@ impl Peers {
         })
     }
 
-    /// peer-get.
+    /// peer-get: what the live peer with an id is, refused where there is none.
     #[tactic(auto, unfolding(ov_model::specs::Step::peer_get))]
     fn peer_get(&mut self, now: u32, id: PeerId) -> Outcome
         ensures value { outcome self.new result.reply result.note ≡ model.peer_get self.old now id }
@@ -148,7 +149,8 @@ impl Peers {
         }
     }
 
-    /// The removal of the live peer with an id: it joins the dying ones.
+    /// The removal of the live peer with an id, refused where there is none: it joins the dying ones, and
+    /// the note tells its id and the reason.
     #[tactic(auto, unfolding(ov_model::specs::Step::remove_peer))]
     fn remove(&mut self, now: u32, id: PeerId, reason: Reason) -> Result<Outcome, Memory>
         ensures ok { IfOk result (λ o. outcome self.new o.reply o.note ≡ model.remove_peer self.old now id reason) }

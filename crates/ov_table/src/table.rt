@@ -17,7 +17,8 @@ use ov_model::{Act, Call, Command, Entry, Note, NoteBody, Place, Reply};
 use std::alloc::Global;
 use std::marker::Model;
 
-/// The table of peers with the history of its steps.
+/// The table of the live and the dying peers with the history of its steps: what the kernel keeps of
+/// peers for the netlink family "ovpn" (Documentation/netlink/specs/ovpn.yaml), each command in turn.
 #[derive(Drop)]
 pub struct Table {
     peers: Peers,
@@ -38,7 +39,7 @@ impl Model for Table {
 }
 
 impl Table {
-    /// The empty table at moment 0, with no steps made.
+    /// The table with no peers at moment 0. It takes no memory until the first step.
     pub fn new(alloc: Global) -> Table
         ensures { result ≡ no_steps }
     {
@@ -49,9 +50,9 @@ impl Table {
         }
     }
 
-    /// Makes the call, and appends its entry and its notes. The only refusal of the step itself is want
-    /// of memory, and then nothing changed; a release finds its room reserved. What the netlink family
-    /// refuses is in the reply.
+    /// Makes the call at the greater of its moment and the table's, and appends its entry, with `place`,
+    /// and its notes. What a command of the netlink family is refused with is its reply. `Err` is want of
+    /// memory: then nothing changed. A release never answers it, since its room was reserved.
     pub fn step(&mut self, place: Place, call: &Call) -> Result<Reply, Memory>
         requires { May self.old.now call.now }
         ensures reply { IfOk result (λ r. r ≡ (step self.old.now call.now).reply) }
@@ -114,7 +115,8 @@ impl Table {
         Reply::Released(serial)
     }
 
-    /// Whether `call` may be made: a release needs a removed peer that isn't let go yet.
+    /// Whether `call` may be made: a release needs a removed peer with its serial that isn't let go yet,
+    /// every other call needs nothing.
     pub fn may(&self, call: &Call) -> bool
         ensures { result ≡ may_act self.now.now call.now.act }
     {
@@ -132,14 +134,14 @@ impl Table {
         self.journal.as_slice()
     }
 
-    /// The notifications of the steps so far, in order.
+    /// The notifications of the steps so far, in order, each with its entry's number from 0.
     pub fn notes(&self) -> &[Note]
         ensures { result.now ≡ self.now.notes }
     {
         self.notes.as_slice()
     }
 
-    /// Moves the journal and the notes out: a run and its notes.
+    /// Moves the journal and the notes out: a run that ends with the present table, and its notes.
     pub fn finish(self) -> (ListOf<Entry>, ListOf<Note>)
         ensures journal { result.0 ≡ self.journal }
         ensures notes { result.1 ≡ self.notes }
