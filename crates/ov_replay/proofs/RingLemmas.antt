@@ -34,8 +34,8 @@ other_place : (words : List ℕ) (p q word : ℕ) → p / 64 < length words → 
     → place_bit (set words (p / 64) word) q ≡ place_bit words q
 other_place words p q word within apart keeps =
     elim (cases_eq (q / 64) (p / 64)) [
-      inl same ↦ ap (λ x. bit_at x (q % 64)) (get_or-set_at words (p / 64) (q / 64) word 0 same within) ∙ keeps (q % 64) (omega arith) (λ e. apart (omega arith)) ∙ ap (λ k. bit_at (get_or words k 0) (q % 64)) (sym same)
-    | inr ne ↦ rw (get_or-set_other words (p / 64) (q / 64) word 0 ne) refl
+      | inl same ↦ ap (λ x. bit_at x (q % 64)) (get_or-set_at words (p / 64) (q / 64) word 0 same within) ∙ keeps (q % 64) (omega arith) (λ e. apart (omega arith)) ∙ ap (λ k. bit_at (get_or words k 0) (q % 64)) (sym same)
+      | inr ne ↦ rw (get_or-set_other words (p / 64) (q / 64) word 0 ne) refl
     ]
 
 pub place_bit-with_other : (words : List ℕ) (p q : ℕ) → p / 64 < length words → q ≢ p → place_bit (with_bit words p) q ≡ place_bit words q

@@ -49,8 +49,8 @@ pub verdict_rows : (l : List Accepted) (id m : ℕ) → verdict_of l id m ≡ co
 unfolding verdict_of
 verdict_rows l id m =
     elim (cases_eq id 0) [
-      inl e ↦ rw (eq-eqb id 0 e) refl
-    | inr ne ↦ rw (all_below l id (omega arith)) refl
+      | inl e ↦ rw (eq-eqb id 0 e) refl
+      | inr ne ↦ rw (all_below l id (omega arith)) refl
     ]
 
 -- The floor at the window's moment, by its fields.
@@ -81,16 +81,16 @@ marks_after w l id m highest passed set s e top gone kept own others q positive 
     let here : w.highest ≡ greatest_id l = s.highest in
     rw (list_any-append (λ a. a.id == q) l (record { id = id; moment = m } ∷ []))
     (elim (cases_eq q id) [
-      inl same ↦ ap (is_marked set) same ∙ own ∙ sym (or_right (list_any (λ a. a.id == q) l) (id == q || false) (or_left (id == q) false (eq-eqb id q (sym same))))
-    | inr ne ↦
-      let other : (id == q) ≡ false = ne_eqb id q (λ same. ne (sym same)) in
-      let before : is_marked passed q ≡ list_any (λ a. a.id == q) l =
+      | inl same ↦ ap (is_marked set) same ∙ own ∙ sym (or_right (list_any (λ a. a.id == q) l) (id == q || false) (or_left (id == q) false (eq-eqb id q (sym same))))
+      | inr ne ↦
+          let other : (id == q) ≡ false = ne_eqb id q (λ same. ne (sym same)) in
+          let before : is_marked passed q ≡ list_any (λ a. a.id == q) l =
           elim (cases_lt w.highest q) [
-            inl new ↦ gone q new below ∙ sym (none_above l q (omega arith))
-          | inr old ↦ kept q old near ∙ s.marks q positive old (omega arith)
+            | inl new ↦ gone q new below ∙ sym (none_above l q (omega arith))
+            | inr old ↦ kept q old near ∙ s.marks q positive old (omega arith)
           ] in
-      let stays : is_marked set q ≡ is_marked passed q = others q (λ place. ne (omega arith)) in
-      grind arith
+          let stays : is_marked set q ≡ is_marked passed q = others q (λ place. ne (omega arith)) in
+          grind arith
     ])
 
 -- What a window stands for after an accept.
@@ -109,7 +109,7 @@ Stands-push w l id m highest floor passed set s e below top gone kept own others
       highest = top ∙ ap (λ x. max x id) s.highest ∙ sym (greatest_id-push l pushed);
       last = s.moment ∙ sym (last_moment-push l pushed);
       floor = below ∙ sym (floor_of-push l pushed) ∙ ap (floor_of (l ++ pushed ∷ [])) (sym (last_moment-push l pushed));
-      marks = marks_after w l id m highest passed set s e top gone kept own others
+      marks = marks_after w l id m highest passed set s e top gone kept own others;
     }
 
 -- A later moment changes nothing else.

@@ -2,6 +2,8 @@
 #![tactic(auto)]
 
 mod marks;
+pub mod shard;
 pub mod window;
 
+pub use shard::Shard;
 pub use window::Window;

@@ -12,6 +12,7 @@ use ov_model::Verdict;
 /// So many seconds without an accept make a gap: what came before it is over.
 const GAP: u32 = 30;
 
+#[derive(Clone, Copy)]
 pub struct Window {
     marks: Marks,
     highest: u32,
@@ -46,6 +47,13 @@ impl Window {
             self.accept(id);
         }
         Ok(verdict)
+    }
+
+    /// The window's moment: the greatest moment of its steps, 0 before the first.
+    pub(crate) fn moment(&self) -> u32
+        ensures { (l : List Accepted) (m : ℕ) → Stands self.now l m → result ≡ m }
+    {
+        self.moment
     }
 
     fn judge(&self, id: u32) -> Verdict

@@ -5,5 +5,5 @@ use Rattle.ov_replay.proofs.marks.Marks.pass.Given as goal
 abbrev pub invariant-loop-passed : goal.invariant-loop-passed
 invariant-loop-passed l = record {
   passed : (id : ℕ) → l.to < id + l.passed → id ≤ l.to → is_marked l.self id ≡ false;
-  kept : (id : ℕ) → id ≤ l.from → l.to < id + 2048 → is_marked l.self id ≡ is_marked l.fn.self id
+  kept : (id : ℕ) → id ≤ l.from → l.to < id + 2048 → is_marked l.self id ≡ is_marked l.fn.self id;
 }

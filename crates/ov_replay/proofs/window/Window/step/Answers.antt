@@ -11,5 +11,5 @@ returns-then-eq-clause-stands c l m s =
     let now = max m c.args.at in
     let later = Stands-later c.args.self.now l m c.args.at c.max-self.result s c.max-self.ensures in
     let accepted : verdict_of l c.args.id now ≡ Accept =
-        sym (c.judge-verdict.ensures l now later) ∙ same_true the_type (search rules) _ _ (sym c.if-eq.ensures) in
+    sym (c.judge-verdict.ensures l now later) ∙ same_true the_type (search rules) _ _ (sym c.if-eq.ensures) in
     rw accepted (c.accept.ensures l now later accepted)
