@@ -1,12 +1,11 @@
 -- What a shard's windows stand for, and what they stand for after a step.
-use Rattle.std.proofs.Common.{◌≡◌, ℕ, ◌%◌, max, Bool, true, false, List, [], ◌∷◌, ◌++◌, Option, None, Some, MatchOption, refl, sym, ap, ◌∙◌, inl, inr, subst, ◌==◌, arith}
+use Rattle.std.proofs.Common.{◌≡◌, ℕ, max, false, List, [], ◌∷◌, ◌++◌, Option, None, Some, MatchOption, refl, ◌∙◌, inl, inr, subst, arith}
 use Rattle.std.specs.BTreeMap.{BTreeMap, get, IsUnchanged, Updates, is_at}
-use Rattle.std.specs.Map.{lookup}
 use Rattle.std.specs.Ordering.{nat_cmp}
 use Rattle.std.proofs.lemmas.Bool.{cases_eq, eq-eqb, ne_eqb}
 use Rattle.std.proofs.lemmas.Bool.Decides.{nat_tests}
-use Rattle.ov_model.specs.Replay.{verdict_of, accepted_by, steps_of, moment_of, accepts_of, judged, IsJudged, ShardJudges}
-use Rattle.ov_model.proofs.ReplayLemmas.{steps_of-push, moment_of-push, accepts_of-push, ShardJudges-push, IsJudged-judged}
+use Rattle.ov_model.specs.Replay.{verdict_of, accepted_by, steps_of, moment_of, accepts_of, judged, IsJudged}
+use Rattle.ov_model.proofs.ReplayLemmas.{steps_of-push, moment_of-push, accepts_of-push, ShardJudges-push}
 use Rattle.ov_model.specs.declared.place.Place.{Place}
 use Rattle.ov_model.specs.declared.replay.ReplayEntry.{ReplayEntry}
 use Rattle.ov_model.specs.declared.replay.Verdict.{Verdict}
@@ -45,13 +44,13 @@ IsShard-push number windows after entries w e shard last updates stands =
     record {
       judged = ShardJudges-push number entries e shard.judged last;
       standing = λ q. elim (cases_eq e.key q) [
-        inl same ↦
-          let P : ℕ → Type 0 = λ key. WindowStands (get nat_cmp after key) (steps_of key (entries ++ e ∷ [])) in
-          subst P same (rw (updates.1, own_steps e.key entries e refl) (stands_on w (steps_of e.key entries) e stands))
-      | inr apart ↦
-          let other : is_at (nat_cmp e.key) q ≡ false = grind (arith, nat_tests) in
-          rw (updates.2 q other, other_steps q entries e apart) (shard.standing q)
-      ]
+        | inl same ↦
+            let P : ℕ → Type 0 = λ key. WindowStands (get nat_cmp after key) (steps_of key (entries ++ e ∷ [])) in
+            subst P same (rw (updates.1, own_steps e.key entries e refl) (stands_on w (steps_of e.key entries) e stands))
+        | inr apart ↦
+            let other : is_at (nat_cmp e.key) q ≡ false = grind (arith, nat_tests) in
+            rw (updates.2 q other, other_steps q entries e apart) (shard.standing q)
+      ];
     }
 
 -- The entry of a step, field by field.

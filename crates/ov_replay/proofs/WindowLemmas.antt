@@ -1,12 +1,11 @@
 -- What a window knows of the list that it stands for, and what it stands for after an accept.
-use Rattle.std.proofs.Common.{◌≡◌, ℕ, ◌+◌, ◌-◌, ◌%◌, ◌<◌, ◌≤◌, max, Bool, true, false, ◌||◌, cond, nat_le, nat_lt, ◌==◌, List, [], ◌∷◌, ◌++◌, inl, inr, refl, sym, ap, ◌∙◌, arith}
-use Rattle.std.specs.List.{list_any, list_all}
-use Rattle.std.proofs.lemmas.Bool.{lt-leb, le-leb, cases_eq, cases_lt, eq-eqb, ne_eqb, or_from, or_left, or_right}
+use Rattle.std.proofs.Common.{◌≡◌, ℕ, ◌+◌, ◌-◌, ◌%◌, ◌<◌, ◌≤◌, max, true, false, ◌||◌, cond, nat_le, ◌==◌, List, [], ◌∷◌, ◌++◌, inl, inr, refl, sym, ap, ◌∙◌, arith}
+use Rattle.std.specs.List.{list_any}
+use Rattle.std.proofs.lemmas.Bool.{lt-leb, cases_eq, cases_lt, eq-eqb, ne_eqb, or_left, or_right}
 use Rattle.std.proofs.lemmas.Bool.Decides.{nat_tests}
 use Rattle.ov_model.specs.Replay.{Accepted, greatest_id, before_gap, has_items, floor_of, verdict_of}
-use Rattle.ov_model.proofs.ReplayLemmas.{before_gap-push, greatest_id-push, greatest_id-before_gap, all_below}
-use Rattle.ov_model.specs.declared.replay.Verdict.{Verdict}
-use Rattle.ov_model.specs.declared.replay.Verdict.TheVariants.{Accept, Zero, Old, Below, Again}
+use Rattle.ov_model.proofs.ReplayLemmas.{before_gap-push, greatest_id-push, none_above, verdict_rows}
+use Rattle.ov_model.specs.declared.replay.Verdict.TheVariants.{Accept}
 use Rattle.ov_replay.specs.Window.{Stands, last_moment}
 use Rattle.ov_replay.specs.declared.window.Window.{Window}
 use Rattle.ov_replay.specs.declared.marks.Marks.{Marks}
@@ -44,25 +43,11 @@ pub floor_of-push : (l : List Accepted) (a : Accepted) → floor_of (l ++ a ∷ 
 unfolding floor_of
 floor_of-push l a = ap greatest_id (before_gap-push l a a.moment ∙ rw (lt-leb (a.moment + 30) a.moment (omega arith)) refl)
 
--- The rows of the rule by the greatest id.
-pub verdict_rows : (l : List Accepted) (id m : ℕ) → verdict_of l id m ≡ cond (id == 0) Zero (cond (nat_lt (greatest_id l) id) Accept (cond (nat_le 2048 (greatest_id l - id)) Old (cond (nat_le id (floor_of l m)) Below (cond (list_any (λ a. a.id == id) l) Again Accept))))
-unfolding verdict_of
-verdict_rows l id m =
-    elim (cases_eq id 0) [
-      | inl e ↦ rw (eq-eqb id 0 e) refl
-      | inr ne ↦ rw (all_below l id (omega arith)) refl
-    ]
-
 -- The floor at the window's moment, by its fields.
 pub floor_now : (w : Window) (l : List Accepted) (m : ℕ) → Stands w l m → floor_of l m ≡ cond (nat_le 30 (w.moment - w.last)) w.highest w.floor
 floor_now w l m s =
     rw (s.moment, s.last, s.highest, s.floor)
     (floor_of-later l m ∙ ap (λ t. cond t (greatest_id l) (floor_of l (last_moment l))) (grind (arith, nat_tests)))
-
--- No id above the greatest is in the list.
-none_above : (l : List Accepted) (id : ℕ) → greatest_id l < id → list_any (λ a. a.id == id) l ≡ false
-none_above [] id above = refl
-none_above (x ∷ l) id above = or_from (x.id == id) (list_any (λ a. a.id == id) l) (ne_eqb x.id id (λ e. omega arith)) (none_above l id (omega arith))
 
 -- What an accept says of its id.
 accepted_near : (l : List Accepted) (id m : ℕ) → verdict_of l id m ≡ Accept → (0 < id) × (greatest_id l < id + 2048)

@@ -2,7 +2,11 @@
 #![tactic(auto)]
 
 mod marks;
+#[cfg(test)]
+mod plain;
 pub mod shard;
+#[cfg(test)]
+mod tests;
 pub mod window;
 
 pub use shard::Shard;

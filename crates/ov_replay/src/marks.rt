@@ -8,7 +8,7 @@ ghost use Rattle.ov_replay.specs.Marks.{is_marked};
 pub(crate) const PLACES: u32 = 2048;
 
 /// The marks, 64 in a word, the lowest place in the lowest bit of the first word.
-#[derive(Clone, Copy)]
+#[derive(Clone, Copy, Debug)]
 pub(crate) struct Marks {
     words: [u64; 32],
 }

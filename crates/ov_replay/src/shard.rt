@@ -15,7 +15,7 @@ use std::collections::BTreeMap;
 use std::marker::Model;
 
 /// The windows and the history of one shard.
-#[derive(Drop)]
+#[derive(Debug, Drop)]
 pub struct Shard {
     number: u32,
     windows: BTreeMap<u32, Window>,

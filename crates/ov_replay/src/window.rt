@@ -1,4 +1,5 @@
-//! The replay window of one key.
+//! The replay window of one key: the rule over the list of all ids that the key has accepted, kept
+//! in the room of 2,048 marks and four numbers.
 
 ghost use Rattle.std.specs.Prelude.{◌≡◌, ℕ, List, [], ◌∷◌, max, IsOk, ◌++◌, Ok};
 ghost use Rattle.ov_model.specs.Replay.{Accepted, verdict_of, accepted_by, floor_of};
@@ -9,15 +10,33 @@ use crate::marks::{Marks, PLACES};
 use ov_base::Memory;
 use ov_model::Verdict;
 
-/// So many seconds without an accept make a gap: what came before it is over.
+/// So many seconds from an accept to whatever comes next are a gap: ids up to the greatest one
+/// accepted before it are over.
 const GAP: u32 = 30;
 
-#[derive(Clone, Copy)]
+/// What a key has accepted, seen from its highest id. With H for the highest id:
+///
+/// ```text
+///  id       0        1 .. H-2048     H-2047 .. floor     floor+1 .. H          H+1 .. 4294967295
+///           |        |               |                   |                     |
+///  verdict  zero     old             below               again where marked,   accept: H moves up
+///                                                        else accept           to the id
+///  marks             none any more   2,048 places, each id at `id mod 2048`    none yet
+/// ```
+///
+/// `H-2047` is the lowest id that has a place: at distance 2,047 a mark is still told, at 2,048 the
+/// id is old. The floor is 0 until the first gap, and may lie below the ring. The window owns no
+/// memory outside itself: 272 bytes.
+#[derive(Clone, Copy, Debug)]
 pub struct Window {
     marks: Marks,
+    /// The greatest accepted id, 0 before the first.
     highest: u32,
+    /// The floor as the last accept found it: a gap that may have come since isn't in it.
     floor: u32,
+    /// The moment of the last accept, in whole seconds.
     last: u32,
+    /// The window's moment: the greatest one of its steps, in whole seconds.
     moment: u32,
 }
 
@@ -35,10 +54,16 @@ impl Window {
         }
     }
 
+    /// Judges packet id `id` at the second `at` and marks it where it is accepted. A moment that
+    /// goes back counts as the greatest one so far. It takes no memory, and never answers Memory.
     pub fn step(&mut self, id: u32, at: u32) -> Result<Verdict, Memory>
+        // Whatever list the window stands for, the verdict is that of the rule over the list.
         ensures verdict { (l : List Accepted) (m : ℕ) → Stands self.old l m → result ≡ Ok (verdict_of l id (max m at)) }
+
+        // Afterwards the window stands for the list with what the verdict adds, at the later moment.
         ensures stands { (l : List Accepted) (m : ℕ) → Stands self.old l m
             → Stands self.new (l ++ accepted_by (verdict_of l id (max m at)) id (max m at)) (max m at) }
+
         ensures memory { IsOk result }
     {
         self.moment = self.moment.max(at);
@@ -49,13 +74,14 @@ impl Window {
         Ok(verdict)
     }
 
-    /// The window's moment: the greatest moment of its steps, 0 before the first.
+    /// The window's moment: the greatest one of its steps, 0 before the first.
     pub(crate) fn moment(&self) -> u32
         ensures { (l : List Accepted) (m : ℕ) → Stands self.now l m → result ≡ m }
     {
         self.moment
     }
 
+    /// The verdict on `id` at the window's moment: the first row of the rule that applies.
     fn judge(&self, id: u32) -> Verdict
         ensures { (l : List Accepted) (m : ℕ) → Stands self.now l m → result ≡ verdict_of l id m }
     {
@@ -74,6 +100,7 @@ impl Window {
         }
     }
 
+    /// The floor at the window's moment: after a gap all that was accepted lies at or below it.
     fn floor_now(&self) -> u32
         ensures { (l : List Accepted) (m : ℕ) → Stands self.now l m → result ≡ floor_of l m }
     {
@@ -84,8 +111,10 @@ impl Window {
         }
     }
 
+    /// Takes `id` in: the ring moves up where it is above the highest, and its place is marked.
     fn accept(&mut self, id: u32)
-        ensures { (l : List Accepted) (m : ℕ) → Stands self.old l m → verdict_of l id m ≡ Accept → Stands self.new (l ++ record { id = id; moment = m } ∷ []) m }
+        ensures { (l : List Accepted) (m : ℕ) → Stands self.old l m → verdict_of l id m ≡ Accept
+            → Stands self.new (l ++ record { id = id; moment = m } ∷ []) m }
     {
         self.floor = self.floor_now();
         self.last = self.moment;

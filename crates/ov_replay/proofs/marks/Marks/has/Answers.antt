@@ -1,4 +1,4 @@
-use Rattle.std.proofs.Common.{◌≡◌, ◌%◌, ◌/◌, eqb, get_or, ap}
+use Rattle.std.proofs.Common.{◌%◌, ◌/◌, eqb, get_or, ap}
 use Rattle.std.proofs.lemmas.Nat.Bits.{shr_and_one}
 use Rattle.ov_replay.specs.Marks.{is_marked}
 use Rattle.ov_replay.proofs.marks.Marks.has.Goals as goal

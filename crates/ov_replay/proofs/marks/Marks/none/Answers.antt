@@ -1,4 +1,4 @@
-use Rattle.std.proofs.Common.{◌≡◌, ◌%◌, ◌/◌, arith, ap, ◌∙◌, eqb}
+use Rattle.std.proofs.Common.{◌%◌, ◌/◌, arith, ap, ◌∙◌, eqb}
 use Rattle.std.specs.Int.{bit_at}
 use Rattle.std.proofs.lemmas.Nat.Bits.{bit_at-zero}
 use Rattle.ov_replay.specs.Marks.{is_marked}

@@ -1,4 +1,4 @@
-use Rattle.std.proofs.Common.{◌≡◌, ℕ, ◌+◌, ◌%◌, ◌<◌, ◌≤◌, ◌≢◌, false, true, ◌-◌, ◌*◌, length}
+use Rattle.std.proofs.Common.{◌≡◌, ℕ, ◌+◌, ◌<◌, ◌≤◌, false}
 use Rattle.ov_replay.specs.Marks.{is_marked}
 use Rattle.ov_replay.proofs.marks.Marks.pass.Given as goal
 

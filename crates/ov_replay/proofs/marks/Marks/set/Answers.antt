@@ -1,4 +1,4 @@
-use Rattle.std.proofs.Common.{◌≡◌, ◌%◌, ◌/◌, ◌<◌, eqb, length, ap, arith}
+use Rattle.std.proofs.Common.{◌%◌, eqb, ap, arith}
 use Rattle.ov_replay.specs.Marks.{is_marked}
 use Rattle.ov_replay.proofs.RingLemmas.{place_bit-with_same, place_bit-with_other}
 use Rattle.ov_replay.proofs.marks.Marks.set.Goals as goal

@@ -1,4 +1,4 @@
-use Rattle.std.proofs.Common.{◌≡◌, ◌++◌, ◌%◌, Ok, max, refl, sym, ap, ◌∙◌}
+use Rattle.std.proofs.Common.{◌≡◌, ◌++◌, ◌%◌, max, refl, sym, ap, ◌∙◌}
 use Rattle.ov_model.specs.declared.replay.ReplayEntry.{ReplayEntry}
 use Rattle.ov_model.specs.Replay.{judged, IsJudged, accepts_of, accepted_by, steps_of, moment_of, verdict_of}
 use Rattle.ov_replay.specs.History.{History}
@@ -28,9 +28,9 @@ unfolding stored
 invariant_of-self-2 c =
     let belongs : c.args.key % 8 ≡ c.self.inside.number = c.requires ∙ sym (ap (λ (seen : History). seen.number) c.self.view_is) in
     let judged_one : IsJudged c.self.inside.number c.self.inside.entries.items (stored c) =
-        record { key = belongs; moment = moment_is c; verdict = verdict_is c ∙ rw (moment_is c) refl } in
+    record { key = belongs; moment = moment_is c; verdict = verdict_is c ∙ rw (moment_is c) refl } in
     let stands : Stands c.step.new.self (accepts_of (steps_of c.args.key c.self.inside.entries.items) ++ accepted_by (stored c).verdict c.args.id (stored c).moment) (max (moment_of (steps_of c.args.key c.self.inside.entries.items)) c.args.at) =
-        rw (moment_is c, verdict_is c) (c.in_ok-verdict.ensures.stands _ _ (found c)) in
+    rw (moment_is c, verdict_is c) (c.in_ok-verdict.ensures.stands _ _ (found c)) in
     rw (c.push_reserved.ensures.items, c.reserve.ensures.items)
     (IsShard-push c.self.inside.number c.self.inside.windows c.insert.new.self c.self.inside.entries.items c.step.new.self (stored c) c.self.invariant judged_one c.in_ok-insert.ensures.updates stands)
 

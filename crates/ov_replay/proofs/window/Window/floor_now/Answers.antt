@@ -1,4 +1,4 @@
-use Rattle.std.proofs.Common.{◌≡◌, ◌-◌, ◌≤◌, arith}
+use Rattle.std.proofs.Common.{arith}
 use Rattle.std.proofs.lemmas.Bool.Decides.{nat_tests}
 use Rattle.ov_replay.proofs.WindowLemmas.{floor_now}
 use Rattle.ov_replay.proofs.window.Window.floor_now.Goals as goal

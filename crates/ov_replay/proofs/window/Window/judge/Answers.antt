@@ -1,8 +1,6 @@
-use Rattle.std.proofs.Common.{rules, ◌≡◌, ℕ, List, [], max, IsOk, ◌++◌, Ok, ◌+◌, ◌-◌, ◌*◌, ◌<◌, ◌≤◌, length, ◌/◌, ◌%◌, Bool, true, false, nat_eq, nat_lt, ◌∷◌, slice_index_or, slice_set, bit_and, bit_or, Fits, w8, w32, w64, Bor, MutBor, arith}
+use Rattle.std.proofs.Common.{arith}
 use Rattle.std.proofs.lemmas.Bool.Decides.{nat_tests}
-use Rattle.ov_model.specs.Replay.{Accepted, verdict_of, accepted_by}
-use Rattle.ov_replay.specs.Window.{Stands}
-use Rattle.ov_replay.proofs.WindowLemmas.{verdict_rows, floor_now}
+use Rattle.ov_model.proofs.ReplayLemmas.{verdict_rows}
 use Rattle.ov_replay.proofs.window.Window.judge.Goals as goal
 
 pub returns-then-id-eq0 : goal.returns-then-id-eq0
