@@ -1,8 +1,8 @@
 //! A ring of marks: one bit for each of 2,048 packet ids in a row.
 //! An id has the place `id mod 2048`, so two ids share one only where they are 2,048 or more apart.
 
-ghost use Rattle.std.specs.Prelude.{◌≡◌, ℕ, ◌+◌, ◌%◌, ◌<◌, ◌≤◌, ◌≢◌, false, true};
-ghost use Rattle.ov_replay.specs.Marks.{is_marked};
+ghost use Rattle.std.specs.Prelude.{◌≡◌, ℕ, ◌+◌, ◌<◌, ◌≤◌, false, true};
+ghost use Rattle.ov_replay.specs.Marks.{is_marked, KeepsOthers};
 
 /// The places of a ring.
 pub(crate) const PLACES: u32 = 2048;
@@ -32,7 +32,7 @@ impl Marks {
     /// Marks the place of `id`.
     pub(crate) fn set(&mut self, id: u32)
         ensures set { is_marked self.new id ≡ true }
-        ensures others { (other : ℕ) → other % 2048 ≢ id % 2048 → is_marked self.new other ≡ is_marked self.old other }
+        ensures others { KeepsOthers self.old self.new id }
     {
         let place = id % PLACES;
         self.words[(place / 64) as usize] |= 1 << (place % 64);
@@ -41,7 +41,7 @@ impl Marks {
     /// Takes the mark from the place of `id`.
     pub(crate) fn clear(&mut self, id: u32)
         ensures cleared { is_marked self.new id ≡ false }
-        ensures others { (other : ℕ) → other % 2048 ≢ id % 2048 → is_marked self.new other ≡ is_marked self.old other }
+        ensures others { KeepsOthers self.old self.new id }
     {
         let place = id % PLACES;
         self.words[(place / 64) as usize] &= !(1 << (place % 64));
@@ -52,7 +52,8 @@ impl Marks {
     pub(crate) fn pass(&mut self, from: u32, to: u32)
         requires { from ≤ to }
         ensures passed { (id : ℕ) → from < id → id ≤ to → is_marked self.new id ≡ false }
-        ensures kept { (id : ℕ) → id ≤ from → to < id + 2048 → is_marked self.new id ≡ is_marked self.old id }
+        ensures kept { (id : ℕ) → id ≤ from → to < id + 2048
+            → is_marked self.new id ≡ is_marked self.old id }
     {
         if to - from >= PLACES {
             *self = Marks::none();

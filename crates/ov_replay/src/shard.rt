@@ -52,8 +52,13 @@ impl Shard {
     /// its entry. A key that has no window yet gets a new one. After Memory the shard is as it was.
     pub fn step(&mut self, place: Place, key: u32, id: u32, at: u32) -> Result<Verdict, Memory>
         requires { key % 8 ≡ self.old.number }
-        ensures verdict { IfOk result (λ verdict. verdict ≡ (judged self.old.entries place key id at).verdict) }
-        ensures ok { OnOk result (self.new ≡ record self.old { entries = self.old.entries ++ judged self.old.entries place key id at ∷ [] }) }
+        // The stored entry is the one that the rule gives after the key's earlier steps.
+        ensures verdict { IfOk result (λ verdict.
+            verdict ≡ (judged self.old.entries place key id at).verdict) }
+        ensures ok { OnOk result (self.new
+            ≡ record self.old { entries = self.old.entries ++ judged self.old.entries place key id at ∷ [] }) }
+
+        // Want of memory changes nothing, neither the window nor its moment.
         ensures err { OnErr result (self.new ≡ self.old) }
     {
         self.entries.reserve(1)?;

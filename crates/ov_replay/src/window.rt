@@ -58,11 +58,12 @@ impl Window {
     /// goes back counts as the greatest one so far. It takes no memory, and never answers Memory.
     pub fn step(&mut self, id: u32, at: u32) -> Result<Verdict, Memory>
         // Whatever list the window stands for, the verdict is that of the rule over the list.
-        ensures verdict { (l : List Accepted) (m : ℕ) → Stands self.old l m → result ≡ Ok (verdict_of l id (max m at)) }
+        ensures verdict { (l : List Accepted) (m : ℕ) → Stands self.old l m
+            → result ≡ Ok (verdict_of l id (max m at)) }
 
         // Afterwards the window stands for the list with what the verdict adds, at the later moment.
         ensures stands { (l : List Accepted) (m : ℕ) → Stands self.old l m
-            → Stands self.new (l ++ accepted_by (verdict_of l id (max m at)) id (max m at)) (max m at) }
+            → let now = max m at in Stands self.new (l ++ accepted_by (verdict_of l id now) id now) now }
 
         ensures memory { IsOk result }
     {
