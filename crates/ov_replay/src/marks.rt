@@ -1,7 +1,7 @@
 //! A ring of marks: one bit for each of 2,048 packet ids in a row.
 //! An id has the place `id mod 2048`, so two ids share one only where they are 2,048 or more apart.
 
-ghost use Rattle.std.specs.Prelude.{◌≡◌, ℕ, ◌+◌, ◌<◌, ◌≤◌, false, true};
+ghost use Rattle.std.specs.Prelude.{◌≡◌, ◌≢◌, ℕ, ◌+◌, ◌%◌, ◌/◌, ◌<◌, ◌≤◌, false, true};
 ghost use Rattle.ov_replay.specs.Marks.{is_marked, KeepsOthers};
 
 /// The places of a ring.
@@ -47,19 +47,39 @@ impl Marks {
         self.words[(place / 64) as usize] &= !(1 << (place % 64));
     }
 
+    /// Takes the marks from the 64 places that share a word with the place of `id`.
+    pub(crate) fn clear_word(&mut self, id: u32)
+        ensures cleared { (other : ℕ) → other % 2048 / 64 ≡ id % 2048 / 64 → is_marked self.new other ≡ false }
+        ensures others { (other : ℕ) → other % 2048 / 64 ≢ id % 2048 / 64
+            → is_marked self.new other ≡ is_marked self.old other }
+    {
+        let place = id % PLACES;
+        self.words[(place / 64) as usize] = 0;
+    }
+
     /// Makes room for the ids above `from` up to `to`: none of them is marked. A jump of 2,048 or
-    /// more passes every place; a smaller one clears exactly the places that it passes.
+    /// more passes every place; a smaller one clears exactly the places that it passes, a whole
+    /// word at a time where it passes one.
     pub(crate) fn pass(&mut self, from: u32, to: u32)
         requires { from ≤ to }
         ensures passed { (id : ℕ) → from < id → id ≤ to → is_marked self.new id ≡ false }
         ensures kept { (id : ℕ) → id ≤ from → to < id + 2048
             → is_marked self.new id ≡ is_marked self.old id }
     {
-        if to - from >= PLACES {
+        let jump = to - from;
+        if jump >= PLACES {
             *self = Marks::none();
-        } else {
-            for passed in 0..to - from {
-                self.clear(to - passed);
+            return;
+        }
+        let mut passed = 0;
+        while passed < jump {
+            let next = from + 1 + passed;
+            if next % 64 == 0 && jump - passed >= 64 {
+                self.clear_word(next);
+                passed += 64;
+            } else {
+                self.clear(next);
+                passed += 1;
             }
         }
     }
