@@ -1,0 +1,4 @@
+pub mod Marks
+pub mod Window
+pub mod History
+pub mod Shard

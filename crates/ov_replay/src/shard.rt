@@ -1,0 +1,102 @@
+//! One of the eight shards of the replay windows: those of the keys with one remainder modulo 8,
+//! and all steps that these keys made, in their order. Each key's window stands for its steps.
+
+ghost use Rattle.std.specs.Prelude.{◌≡◌, ◌%◌, ◌<◌, [], ◌∷◌, ◌++◌, IfOk, OnOk, OnErr, MatchOption};
+ghost use Rattle.std.specs.BTreeMap.{get};
+ghost use Rattle.std.specs.Ordering.{nat_cmp};
+ghost use Rattle.ov_model.specs.Replay.{ShardJudges, judged};
+ghost use Rattle.ov_replay.specs.Window.{Stands};
+
+use crate::window::Window;
+use ov_base::{ListOf, Memory};
+use ov_model::{Place, ReplayEntry, Verdict};
+use std::alloc::Global;
+use std::collections::BTreeMap;
+use std::marker::Model;
+
+/// The windows and the history of one shard.
+#[derive(Debug, Drop)]
+pub struct Shard {
+    number: u32,
+    windows: BTreeMap<u32, Window>,
+    entries: Vec<ReplayEntry>,
+}
+
+impl Model for Shard {
+    ghost use Rattle.ov_replay.specs.History.{History};
+
+    ghost Value = { History };
+
+    ghost use Rattle.ov_replay.specs.Shard.{IsShard};
+
+    ghost view = { λ s. record { number = s.number; entries = s.entries.items } };
+
+    ghost invariant = { λ s. IsShard s.number s.windows s.entries.items };
+}
+
+impl Shard {
+    /// The shard of the keys whose remainder modulo 8 is `number`. It takes no memory until its
+    /// first step.
+    pub fn new(alloc: Global, number: u32) -> Shard
+        requires { number < 8 }
+        ensures { result ≡ record { number = number; entries = [] } }
+    {
+        Shard {
+            number,
+            windows: BTreeMap::new(alloc),
+            entries: Vec::new(alloc),
+        }
+    }
+
+    /// Makes the step of packet id `id` on the window of the key with the serial `key` and stores
+    /// its entry. A key that has no window yet gets a new one. After Memory the shard is as it was.
+    pub fn step(&mut self, place: Place, key: u32, id: u32, at: u32) -> Result<Verdict, Memory>
+        requires { key % 8 ≡ self.old.number }
+        // The stored entry is the one that the rule gives after the key's earlier steps.
+        ensures verdict { IfOk result (λ verdict.
+            verdict ≡ (judged self.old.entries place key id at).verdict) }
+        ensures ok { OnOk result (self.new
+            ≡ record self.old { entries = self.old.entries ++ judged self.old.entries place key id at ∷ [] }) }
+
+        // Want of memory changes nothing, neither the window nor its moment.
+        ensures err { OnErr result (self.new ≡ self.old) }
+    {
+        self.entries.reserve(1)?;
+        let mut window = window_of(&self.windows, key);
+        let verdict = window.step(id, at)?;
+        let moment = window.moment();
+        self.windows.insert(key, window)?;
+        self.entries.push_reserved(ReplayEntry {
+            place,
+            key,
+            id,
+            at,
+            moment,
+            verdict,
+        });
+        Ok(verdict)
+    }
+
+    /// Closes the shard and moves its history out: the entries of all its steps, in their order.
+    pub fn finish(self) -> ListOf<ReplayEntry>
+        ensures entries { result ≡ self.entries }
+        ensures judged { ShardJudges self.number result }
+    {
+        let Shard {
+            number: _,
+            windows: _,
+            entries,
+        } = self;
+        ListOf::of_vec(entries)
+    }
+}
+
+/// The window of a key, a new one where it has none.
+fn window_of(windows: &BTreeMap<u32, Window>, key: u32) -> Window
+    ensures { MatchOption (get nat_cmp windows.now key) (Stands result [] 0) (λ window. result ≡ window) }
+{
+    match windows.get(&key) {
+        Some(window) => *window,
+        None => Window::new(),
+    }
+}
