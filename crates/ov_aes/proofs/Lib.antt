@@ -3,3 +3,4 @@ pub mod TableFacts
 pub mod Schedules
 pub mod Filled
 pub mod Vectors
+pub mod Lengths

@@ -30,7 +30,7 @@ key_words-at key (suc n) i below =
 -- ---- the words after them
 
 module _ (nk : ℕ) (key : List ℕ) where
-  length-schedule : (n : ℕ) → length (schedule nk key n) ≡ nk + n
+  pub length-schedule : (n : ℕ) → length (schedule nk key n) ≡ nk + n
   unfolding schedule
   length-schedule zero = length-key_words key nk ∙ omega arith
   length-schedule (suc n) =
@@ -38,18 +38,18 @@ module _ (nk : ℕ) (key : List ℕ) where
       ∙ (let before = length-schedule n in omega arith)
 
   -- a word that is there stays
-  schedule-more : (n i : ℕ) → i < nk + n → word (schedule nk key (suc n)) i ≡ word (schedule nk key n) i
+  pub schedule-more : (n i : ℕ) → i < nk + n → word (schedule nk key (suc n)) i ≡ word (schedule nk key n) i
   unfolding schedule
   schedule-more n i below =
       let long = length-schedule n in
       get_or_append_left (schedule nk key n) (next_word nk (schedule nk key n) (nk + n) ∷ []) [] i (omega arith)
 
-  schedule-key : (n i : ℕ) → i < nk → word (schedule nk key n) i ≡ key_word key i
+  pub schedule-key : (n i : ℕ) → i < nk → word (schedule nk key n) i ≡ key_word key i
   unfolding schedule
   schedule-key zero i below = key_words-at key nk i below
   schedule-key (suc n) i below = schedule-more n i (omega arith) ∙ schedule-key n i below
 
-  schedule-last : (n : ℕ) → word (schedule nk key (suc n)) (nk + n) ≡ next_word nk (schedule nk key n) (nk + n)
+  pub schedule-last : (n : ℕ) → word (schedule nk key (suc n)) (nk + n) ≡ next_word nk (schedule nk key n) (nk + n)
   unfolding schedule
   schedule-last n =
       get_or_push (schedule nk key n) (next_word nk (schedule nk key n) (nk + n)) [] (nk + n) (length-schedule n)

@@ -5,6 +5,7 @@ mod cipher;
 mod key;
 mod key_bytes;
 mod key_schedule;
+pub mod laws;
 mod tables;
 #[cfg(test)]
 mod tests;

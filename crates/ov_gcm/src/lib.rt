@@ -1,0 +1,9 @@
+// Authenticated encryption of one packet: AES in Galois/Counter Mode (SP 800-38D).
+#![tactic(auto)]
+
+mod blocks;
+mod key;
+pub mod laws;
+mod stream;
+
+pub use key::{BadTag, GcmKey};
