@@ -5,5 +5,7 @@ mod blocks;
 mod key;
 pub mod laws;
 mod stream;
+#[cfg(test)]
+mod tests;
 
 pub use key::{BadTag, GcmKey};
