@@ -1,6 +1,6 @@
 // Blocks of 16 bytes: sums, padding and lengths.
 
-ghost use Rattle.std.specs.Prelude.{◌≡◌, ℕ, ◌+◌, ◌-◌, ◌*◌, ◌<◌, ◌≤◌, ◌++◌, List, length, replicate};
+ghost use Rattle.std.specs.Prelude.{◌≡◌, ℕ, ◌+◌, ◌-◌, ◌*◌, ◌<◌, ◌≤◌, ◌++◌, List, length};
 ghost use Rattle.std.specs.Int.{w64, to_be_bytes};
 ghost use Rattle.ov_aes.specs.Field.{plus};
 ghost use Rattle.ov_ghash.specs.Ghash.{Holds};
@@ -13,7 +13,7 @@ use std::simd::prelude::*;
 pub const BLOCK: usize = 16;
 
 /// The most bytes that associated data or a text may have.
-pub const MOST: usize = 65536;
+pub const MOST_BYTES: usize = 65536;
 
 /// Adds a block to at most 16 bytes, without carry.
 pub fn add_block(text: &mut [u8], block: [u8; BLOCK])
@@ -44,8 +44,9 @@ fn padded_with_zeros(bytes: &[u8]) -> [u8; BLOCK]
 
 /// Appends the blocks of `bytes` to what `hash` holds, the last block padded.
 pub fn absorb(hash: &mut Ghash, bytes: &[u8])
-    requires { length bytes.now ≤ MOST }
-    ensures { (h : List ℕ) (xs : List (List ℕ)) → Holds hash.old h xs → Holds hash.new h (xs ++ padded_blocks bytes.now) }
+    requires { length bytes.now ≤ MOST_BYTES }
+    ensures { (h : List ℕ) (xs : List (List ℕ)) →
+        Holds hash.old h xs → Holds hash.new h (xs ++ padded_blocks bytes.now) }
 {
     for i in 0..bytes.len().div_ceil(BLOCK) {
         let end = bytes.len().min(BLOCK * i + BLOCK);
@@ -55,8 +56,8 @@ pub fn absorb(hash: &mut Ghash, bytes: &[u8])
 
 /// The two lengths in bits as a block, that of the associated data first.
 pub fn lengths(ad: usize, text: usize) -> [u8; BLOCK]
-    requires ad { ad ≤ MOST }
-    requires text { text ≤ MOST }
+    requires ad { ad ≤ MOST_BYTES }
+    requires text { text ≤ MOST_BYTES }
     ensures { result ≡ to_be_bytes w64 (8 * ad) ++ to_be_bytes w64 (8 * text) }
 {
     let mut block = [0; BLOCK];

@@ -4,7 +4,7 @@ ghost use Rattle.std.specs.Prelude.{◌≡◌, ◌≤◌, ◌↔◌, length, IsO
 ghost use Rattle.ov_aes.specs.Aes.{key_list};
 ghost use Rattle.ov_gcm.specs.Gcm.{seal_text, seal_tag, tag_of, Opens, plain};
 
-use crate::blocks::{BLOCK, MOST, absorb, add_block, lengths};
+use crate::blocks::{BLOCK, MOST_BYTES, absorb, add_block, lengths};
 use crate::stream::{counter_block, crypt};
 use ov_aes::{AesKey, KeyBytes};
 use ov_ghash::Ghash;
@@ -17,7 +17,7 @@ use thiserror::Error;
 pub struct BadTag;
 
 /// A key of AES in Galois/Counter Mode, ready for use. Contracts see it as the bytes of the key. It has
-/// 832 bytes.
+/// 816 bytes.
 #[derive(Clone, Copy)]
 pub struct GcmKey {
     aes: AesKey,
@@ -58,8 +58,8 @@ impl GcmKey {
     /// Encrypts `text` in place and answers its tag (SP 800-38D, 7.1). A nonce must never be given twice
     /// under a key. `ad` is the associated data, which the tag covers too. Each has at most 65,536 bytes.
     pub fn seal(&self, nonce: [u8; 12], ad: &[u8], text: &mut [u8]) -> [u8; 16]
-        requires ad { length ad.now ≤ MOST }
-        requires text { length text.old ≤ MOST }
+        requires ad { length ad.now ≤ MOST_BYTES }
+        requires text { length text.old ≤ MOST_BYTES }
         ensures text { text.new ≡ seal_text (key_list self.now) nonce ad.now text.old }
         ensures tag { result ≡ seal_tag (key_list self.now) nonce ad.now text.old }
     {
@@ -76,8 +76,8 @@ impl GcmKey {
         text: &mut [u8],
         tag: [u8; 16],
     ) -> Result<(), BadTag>
-        requires ad { length ad.now ≤ MOST }
-        requires text { length text.old ≤ MOST }
+        requires ad { length ad.now ≤ MOST_BYTES }
+        requires text { length text.old ≤ MOST_BYTES }
         ensures right { IsOk result ↔ Opens (key_list self.now) nonce ad.now text.old tag }
         ensures text { OnOk result (text.new ≡ plain (key_list self.now) nonce text.old) }
         ensures wrong { IsErr result ↔ ¬ (Opens (key_list self.now) nonce ad.now text.old tag) }
@@ -93,8 +93,8 @@ impl GcmKey {
 
     /// The tag of a ciphertext.
     fn tag(&self, nonce: [u8; 12], ad: &[u8], text: &[u8]) -> [u8; 16]
-        requires ad { length ad.now ≤ MOST }
-        requires text { length text.now ≤ MOST }
+        requires ad { length ad.now ≤ MOST_BYTES }
+        requires text { length text.now ≤ MOST_BYTES }
         ensures { result ≡ tag_of (key_list self.now) nonce ad.now text.now }
     {
         let mut hash = self.hash;

@@ -8,4 +8,5 @@ mod stream;
 #[cfg(test)]
 mod tests;
 
+pub use blocks::MOST_BYTES;
 pub use key::{BadTag, GcmKey};

@@ -5,7 +5,7 @@ ghost use Rattle.ov_aes.specs.Aes.{key_list};
 ghost use Rattle.ov_gcm.specs.Gcm.{counter, crypted};
 ghost use Rattle.ov_gcm.specs.Steps.{IsCryptedUpTo};
 
-use crate::blocks::{BLOCK, MOST, add_block};
+use crate::blocks::{BLOCK, MOST_BYTES, add_block};
 use ov_aes::AesKey;
 
 /// Counter block `i`, of which the first, block 0, makes the tag.
@@ -22,8 +22,10 @@ pub fn counter_block(nonce: [u8; 12], i: u32) -> [u8; BLOCK]
 /// Encrypts or decrypts block `i` of a text, of which the last may be cut.
 fn crypt_block(key: &AesKey, nonce: [u8; 12], text: &mut [u8], i: usize)
     requires within { 16 * i < length text.old }
-    requires most { length text.old ≤ MOST }
-    ensures { (p : List ℕ) → length p ≡ length text.old → IsCryptedUpTo (key_list key.now) nonce p i text.old → IsCryptedUpTo (key_list key.now) nonce p (i + 1) text.new }
+    requires most { length text.old ≤ MOST_BYTES }
+    ensures { (p : List ℕ) → length p ≡ length text.old →
+        IsCryptedUpTo (key_list key.now) nonce p i text.old →
+        IsCryptedUpTo (key_list key.now) nonce p (i + 1) text.new }
 {
     let block = key.encrypt(counter_block(nonce, i as u32 + 1));
     let end = text.len().min(BLOCK * i + BLOCK);
@@ -32,7 +34,7 @@ fn crypt_block(key: &AesKey, nonce: [u8; 12], text: &mut [u8], i: usize)
 
 /// Encrypts or decrypts a text in place: four counter blocks a turn, and then those that are left.
 pub fn crypt(key: &AesKey, nonce: [u8; 12], text: &mut [u8])
-    requires { length text.old ≤ MOST }
+    requires { length text.old ≤ MOST_BYTES }
     ensures { text.new ≡ crypted (key_list key.now) nonce text.old }
 {
     let turns = text.len() / (4 * BLOCK);
