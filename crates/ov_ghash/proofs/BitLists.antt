@@ -1,11 +1,11 @@
 -- The bits of a number as a list, and the polynomial that they are.
-use Rattle.std.proofs.Common.{◌≡◌, ℕ, zero, suc, ◌+◌, ◌-◌, ◌*◌, ◌/◌, ◌%◌, ◌^◌, ◌<◌, ◌≤◌, Bool, true, false, not, eqb, List, [], ◌∷◌, ◌++◌, length, replicate, take, get_or, bit_xor, refl, sym, ap, ◌∙◌, subst, arith, suc-add, zero-add, add-zero, add_comm}
+use Rattle.std.proofs.Common.{◌≡◌, ℕ, zero, suc, ◌+◌, ◌*◌, ◌/◌, ◌%◌, ◌^◌, ◌<◌, ◌≤◌, Bool, false, eqb, List, [], ◌∷◌, ◌++◌, length, replicate, take, get_or, bit_xor, refl, sym, ap, ◌∙◌, subst, arith, suc-add, zero-add, add_comm}
 use Rattle.std.proofs.Math.Nat.{pow-suc, zero-mul, one-mul, mod-one}
 use Rattle.std.proofs.Math.Numerals.{one-add}
 use Rattle.std.proofs.lemmas.Nat.{shr-shr, shr_split, shl_below, pow_pos, pow-add, mod-pow-add, mod_below}
 use Rattle.std.proofs.lemmas.Nat.Bits.{bit_at_xor, bit_at-lt, bit_at_above, bit_at_cat_low, bit_at-zero, bit_at_lowest}
 use Rattle.std.proofs.lemmas.List.{take_at, get_or_at}
-use Rattle.std.specs.Int.Bits.{xor_zero_r, xor_zero_l, xor_shifted}
+use Rattle.std.specs.Int.Bits.{xor_zero_r, xor_shifted}
 use Rattle.std.specs.Int.{bit_at}
 use Rattle.ov_ghash.specs.Polynomial.{add, plus, scaled, overflow, raised}
 use Rattle.ov_ghash.specs.Block.{bits, number}
@@ -60,7 +60,7 @@ unfolding bits
 bits-zero zero = refl
 bits-zero (suc n) = rw (bit_at-zero n, bits-zero n) refl
 
-bits-one : (v : ℕ) → bits 1 v ≡ eqb (v % 2) 1 ∷ []
+pub bits-one : (v : ℕ) → bits 1 v ≡ eqb (v % 2) 1 ∷ []
 unfolding bits
 bits-one v = rw (bit_at_lowest v) refl
 
@@ -96,7 +96,7 @@ raised-bits v small =
     ap (take 127) (bits-half v) ∙ take_at (bits 127 (v / 2)) (eqb (v % 2) 1 ∷ []) 127 (length-bits 127 (v / 2)) in
     let last : get_or (bits 128 v) 127 false ≡ eqb (v % 2) 1 =
     ap (λ (p : List Bool). get_or p 127 false) (bits-half v)
-      ∙ get_or_at (bits 127 (v / 2)) (eqb (v % 2) 1) [] false 127 (length-bits 127 (v / 2)) in
+    ∙ get_or_at (bits 127 (v / 2)) (eqb (v % 2) 1) [] false 127 (length-bits 127 (v / 2)) in
     rw (front, last, ← bits-of_half v small) (plus-overflow (v / 2) (v % 2) (omega arith))
 
 part-bit : (b h : ℕ) → b < 2 → part (eqb b 1) h ≡ b * h
@@ -122,9 +122,9 @@ horner-bits-more (suc n) m v e =
     let shifted : v % 2 ^ n * 2 ^ suc m ≡ rest * 2 = omega (arith, ap (λ (x : ℕ). v % 2 ^ n * x) (pow-suc 2 m)) in
     let small : rest < 2 ^ 127 = subst (λ (w : ℕ). rest < 2 ^ w) width (shl_below (v % 2 ^ n) n m (mod_below v (2 ^ n) (pow_pos n))) in
     rw (part-bit (bit_at v n) (2 ^ 127) (bit_at-lt v n), horner-bits-more n (suc m) v (omega arith), shifted, turn-double rest)
-      (xor_shifted (bit_at v n) 127 rest small
-        ∙ split_times (bit_at v n) (v % 2 ^ n) (2 ^ 127) (2 ^ n) (2 ^ m) (ap (λ (w : ℕ). 2 ^ w) (sym width) ∙ pow-add 2 n m)
-        ∙ ap (λ (x : ℕ). x * 2 ^ m) (sym (mod-bit n v)))
+    (xor_shifted (bit_at v n) 127 rest small
+    ∙ split_times (bit_at v n) (v % 2 ^ n) (2 ^ 127) (2 ^ n) (2 ^ m) (ap (λ (w : ℕ). 2 ^ w) (sym width) ∙ pow-add 2 n m)
+    ∙ ap (λ (x : ℕ). x * 2 ^ m) (sym (mod-bit n v)))
 
 pub horner-bits : (v : ℕ) → v < 2 ^ 128 → horner (bits 128 v) (2 ^ 127) ≡ v
 horner-bits v small = horner-bits-more 128 0 v refl ∙ omega arith
@@ -140,4 +140,4 @@ unfolding bits number
 number-bits zero v = sym (mod-one v)
 number-bits (suc n) v =
     number-bit (bit_at v n) (bits n v) (bit_at-lt v n)
-      ∙ rw (length-bits n v, number-bits n v) (sym (mod-bit n v))
+    ∙ rw (length-bits n v, number-bits n v) (sym (mod-bit n v))

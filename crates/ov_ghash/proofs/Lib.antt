@@ -3,4 +3,5 @@ pub mod BitLists
 pub mod Field
 pub mod Tables
 pub mod Held
+pub mod BitByBit
 mod Examples

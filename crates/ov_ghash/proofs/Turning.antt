@@ -1,8 +1,8 @@
 -- Turns and products by Horner's rule are linear, and products may be taken in any order.
-use Rattle.std.proofs.Common.{◌≡◌, ℕ, zero, suc, ◌+◌, ◌*◌, ◌/◌, ◌%◌, ◌^◌, ◌<◌, Bool, true, false, List, [], ◌∷◌, ◌++◌, length, bit_xor, refl, sym, ap, ◌∙◌, arith}
-use Rattle.std.proofs.lemmas.Nat.{xor_comm, xor_shr, xor_mod, xor_lt, shl-shr, shr_split, pow_pos}
+use Rattle.std.proofs.Common.{◌≡◌, ℕ, zero, suc, ◌*◌, ◌/◌, ◌%◌, ◌^◌, ◌<◌, Bool, true, false, List, [], ◌∷◌, ◌++◌, length, bit_xor, refl, sym, ap, ◌∙◌, arith}
+use Rattle.std.proofs.lemmas.Nat.{xor_comm, xor_shr, xor_mod, xor_lt, shr_split, pow_pos}
 use Rattle.std.proofs.Math.Nat.{pow-suc}
-use Rattle.std.specs.Int.Bits.{xor_self, xor_assoc, xor_zero_r, xor_zero_l, xor_shifted}
+use Rattle.std.specs.Int.Bits.{xor_self, xor_assoc, xor_zero_r, xor_shifted}
 use Rattle.ov_ghash.specs.Polynomial.{add, plus, scaled, product}
 use Rattle.ov_ghash.specs.Turn.{turn, turns, part, horner}
 
@@ -26,7 +26,7 @@ pub turn-xor : (a b : ℕ) → turn (bit_xor a b) ≡ bit_xor (turn a) (turn b)
 unfolding turn
 turn-xor a b =
     rw (xor_shr a b 1, xor_mod a b 1, carry-xor (a % 2) (b % 2) (omega arith) (omega arith))
-      (xor_pairs (a / 2) (b / 2) (a % 2 * (0xe1 * 2 ^ 120)) (b % 2 * (0xe1 * 2 ^ 120)))
+    (xor_pairs (a / 2) (b / 2) (a % 2 * (0xe1 * 2 ^ 120)) (b % 2 * (0xe1 * 2 ^ 120)))
 
 pub turn-lt : (v : ℕ) → v < 2 ^ 128 → turn v < 2 ^ 128
 unfolding turn
@@ -58,7 +58,7 @@ turns_split k v =
     let parts : bit_xor (v / 2 ^ k * 2 ^ k) (v % 2 ^ k) ≡ v =
     xor_shifted (v / 2 ^ k) k (v % 2 ^ k) (omega (arith, pow_pos k)) ∙ shr_split v k in
     ap (turns k) (sym parts) ∙ turns-xor k (v / 2 ^ k * 2 ^ k) (v % 2 ^ k)
-      ∙ ap (λ (x : ℕ). bit_xor x (turns k (v % 2 ^ k))) (turns-shift k (v / 2 ^ k))
+    ∙ ap (λ (x : ℕ). bit_xor x (turns k (v % 2 ^ k))) (turns-shift k (v / 2 ^ k))
 
 part-xor : (a : Bool) (g h : ℕ) → part a (bit_xor g h) ≡ bit_xor (part a g) (part a h)
 unfolding part
@@ -70,7 +70,7 @@ unfolding horner
 horner-xor [] g h = refl
 horner-xor (a ∷ p) g h =
     rw (part-xor a g h, horner-xor p g h, turn-xor (horner p g) (horner p h))
-      (xor_pairs (part a g) (part a h) (turn (horner p g)) (turn (horner p h)))
+    (xor_pairs (part a g) (part a h) (turn (horner p g)) (turn (horner p h)))
 
 part-turn : (a : Bool) (h : ℕ) → part a (turn h) ≡ turn (part a h)
 unfolding part turn
@@ -105,7 +105,7 @@ unfolding horner
 horner-horner [] q h = sym (horner-zero q)
 horner-horner (a ∷ p) q h =
     rw (horner-horner p q h, ← part-horner a q h, ← horner-turn q (horner p h))
-      (sym (horner-xor q (part a h) (turn (horner p h))))
+    (sym (horner-xor q (part a h) (turn (horner p h))))
 
 part-add : (a b : Bool) (h : ℕ) → part (add a b) h ≡ bit_xor (part a h) (part b h)
 unfolding part add
@@ -120,7 +120,7 @@ horner-plus [] q h = refl
 horner-plus (a ∷ p) [] h = sym (xor_zero_r (horner (a ∷ p) h))
 horner-plus (a ∷ p) (b ∷ q) h =
     rw (part-add a b h, horner-plus p q h, turn-xor (horner p h) (horner q h))
-      (xor_pairs (part a h) (part b h) (turn (horner p h)) (turn (horner q h)))
+    (xor_pairs (part a h) (part b h) (turn (horner p h)) (turn (horner q h)))
 
 horner-scaled : (a : Bool) (q : List Bool) (h : ℕ) → horner (scaled a q) h ≡ part a (horner q h)
 unfolding horner scaled part
@@ -138,7 +138,7 @@ unfolding horner turns
 horner-append [] q h = refl
 horner-append (a ∷ p) q h =
     rw (horner-append p q h, turn-xor (horner p h) (turns (length p) (horner q h)))
-      (sym (xor_assoc (part a h) (turn (horner p h)) (turn (turns (length p) (horner q h)))))
+    (sym (xor_assoc (part a h) (turn (horner p h)) (turn (turns (length p) (horner q h)))))
 
 part-lt : (a : Bool) (h : ℕ) → h < 2 ^ 128 → part a h < 2 ^ 128
 unfolding part

@@ -1,7 +1,7 @@
 -- GHASH (SP 800-38D, section 6.4) of blocks of 128 bits. A block is the list of its 16 bytes. Its bit 0
 -- is the highest bit of its first byte, and bit i is the coefficient of x^i of the polynomial that it
 -- stands for (section 6.3).
-use Rattle.std.specs.Prelude.{◌≡◌, ℕ, zero, suc, ◌+◌, ◌*◌, ◌^◌, Bool, true, false, ◌==◌, List, [], ◌∷◌, map, length, replicate}
+use Rattle.std.specs.Prelude.{ℕ, zero, suc, ◌+◌, ◌^◌, Bool, true, false, ◌==◌, List, [], ◌∷◌, map, length, replicate}
 use Rattle.std.specs.Int.{w128, bit_at, from_be_bytes, to_be_bytes}
 use Rattle.ov_ghash.specs.Polynomial.{plus, times, power}
 

@@ -1,7 +1,7 @@
 -- The field of SP 800-38D, section 6.3: polynomials in x whose coefficients are zero (false) and one
 -- (true), modulo 1 + x + x^2 + x^7 + x^128. A polynomial is the list of its coefficients, that of x^0
 -- first; those past the list's end are zero.
-use Rattle.std.specs.Prelude.{ℕ, zero, suc, ◌+◌, Bool, true, false, not, List, [], ◌∷◌, ◌++◌, take, replicate}
+use Rattle.std.specs.Prelude.{ℕ, zero, suc, Bool, true, false, not, List, [], ◌∷◌, take, replicate}
 use Rattle.std.specs.Prelude.{slice_index_or}
 
 -- the sum of two coefficients, without carry

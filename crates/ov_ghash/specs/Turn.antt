@@ -1,5 +1,5 @@
 -- Products in the field, on blocks as numbers: what the code computes.
-use Rattle.std.specs.Prelude.{ℕ, zero, suc, ◌+◌, ◌*◌, ◌/◌, ◌%◌, ◌^◌, Bool, true, false, List, [], ◌∷◌, map, bit_xor}
+use Rattle.std.specs.Prelude.{ℕ, zero, suc, ◌*◌, ◌/◌, ◌%◌, ◌^◌, Bool, true, false, List, [], ◌∷◌, map, bit_xor}
 use Rattle.std.specs.List.{range_with_len}
 use Rattle.ov_ghash.specs.Block.{bits}
 

@@ -1,6 +1,5 @@
-use Rattle.std.proofs.Common.{◌≡◌, ℕ, ◌<◌, ◌^◌, ap, sym, ◌∙◌, arith}
-use Rattle.ov_ghash.specs.Block.{number_of, bits, polynomial, sum_of_powers}
-use Rattle.ov_ghash.specs.Turn.{turns, products}
+use Rattle.std.proofs.Common.{sym, arith}
+use Rattle.ov_ghash.specs.Block.{sum_of_powers}
 use Rattle.ov_ghash.specs.Ghash.{Holds, fresh}
 use Rattle.ov_ghash.proofs.BitLists.{bits-zero}
 use Rattle.ov_ghash.proofs.Ghash.new.Goals as goal

@@ -1,6 +1,6 @@
-use Rattle.std.proofs.Common.{◌≡◌, ℕ, List, replicate, refl}
+use Rattle.std.proofs.Common.{◌≡◌, ℕ, replicate, refl}
 use Rattle.ov_ghash.specs.Block.{bits}
-use Rattle.ov_ghash.specs.Turn.{turn, horner, products}
+use Rattle.ov_ghash.specs.Turn.{horner}
 use Rattle.ov_ghash.proofs.Tables.{AreProducts, AreProducts_first, AreProducts_double, AreProducts_all, horner_1, horner_2, horner_4, horner_8}
 use Rattle.ov_ghash.proofs.table.products_of.Goals as goal
 
@@ -18,4 +18,4 @@ returns c =
     let eight : AreProducts h 8 c.double-3.new.table =
     AreProducts_double h 2 4 c.turned-by_x.result c.double-2.new.table c.double-3.new.table refl by_x four c.double-3.ensures.kept c.double-3.ensures.added in
     AreProducts_all h c.double-4.new.table c.double-4.array_long
-      (AreProducts_double h 3 8 h c.double-3.new.table c.double-4.new.table refl (horner_8 h) eight c.double-4.ensures.kept c.double-4.ensures.added)
+    (AreProducts_double h 3 8 h c.double-3.new.table c.double-4.new.table refl (horner_8 h) eight c.double-4.ensures.kept c.double-4.ensures.added)
