@@ -1,0 +1,6 @@
+pub mod Bytes
+pub mod TableFacts
+pub mod Schedules
+pub mod Filled
+pub mod Vectors
+pub mod Lengths

@@ -1,0 +1,7 @@
+use Rattle.ov_aes.specs.SBox.{sub_bytes}
+use Rattle.ov_aes.proofs.key_schedule.sub_word.Goals as goal
+
+pub returns : goal.returns
+unfolding sub_bytes
+returns c =
+    rw (c.s_box.ensures, c.s_box-2.ensures, c.s_box-3.ensures, c.s_box-4.ensures, c.byte0.ensures, c.byte1.ensures, c.byte2.ensures, c.byte3.ensures) at c.word_of.ensures

@@ -1,0 +1,6 @@
+pub mod Field
+pub mod SBox
+pub mod KeySchedule
+pub mod Cipher
+pub mod Aes
+pub mod Words

@@ -1,0 +1,4 @@
+pub mod Sums
+pub mod Counters
+pub mod Steps
+pub mod Vectors

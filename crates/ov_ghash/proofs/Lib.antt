@@ -1,0 +1,7 @@
+pub mod Turning
+pub mod BitLists
+pub mod Field
+pub mod Tables
+pub mod Held
+pub mod BitByBit
+mod Examples

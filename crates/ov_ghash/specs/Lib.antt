@@ -1,0 +1,4 @@
+pub mod Polynomial
+pub mod Block
+pub mod Turn
+pub mod Ghash
