@@ -1,4 +1,3 @@
-<<<<<<< HEAD
 pub mod Ident
 pub mod Tables
 pub mod Step
@@ -7,6 +6,4 @@ pub mod Checked
 pub mod Events
 pub mod Path
 pub mod Legal
-=======
 pub mod Replay
->>>>>>> dbad19f0a3d361f7033ce5f9ec054e8dae08a6b7
