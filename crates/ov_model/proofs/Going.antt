@@ -1,9 +1,9 @@
 -- A journal that goes on: what its last table, notes and steps are after more entries.
-use Rattle.std.proofs.Common.{ℕ, ◌≡◌, ◌+◌, List, [], ◌∷◌, ◌++◌, length, refl, sym, ◌∙◌, ap, append_assoc, arith, add-zero, add-one, suc-add}
+use Rattle.std.proofs.Common.{ℕ, ◌≡◌, ◌+◌, List, [], ◌∷◌, ◌++◌, length, refl, ap, append_assoc, arith, add-zero}
 use Rattle.ov_model.specs.declared.entry.Entry.{Entry}
 use Rattle.ov_model.specs.Tables.{Table}
-use Rattle.ov_model.specs.Step.{step, May}
-use Rattle.ov_model.specs.Runs.{table_after, Follows, notes_after, numbered}
+use Rattle.ov_model.specs.Step.{step}
+use Rattle.ov_model.specs.Runs.{table_after, Follows, notes_after}
 use Rattle.ov_model.specs.Events.{steps_after}
 
 pub table_after-append : (t : Table) (es fs : List Entry) → table_after t (es ++ fs) ≡ table_after (table_after t es) fs

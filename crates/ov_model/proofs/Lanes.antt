@@ -1,6 +1,6 @@
 -- A lane goes on: more steps of the line under way, and the line's answer.
-use Rattle.std.proofs.Common.{ℕ, ◌≡◌, ◌≢◌, ◌+◌, ◌≤◌, ◌<◌, List, [], ◌∷◌, ◌++◌, length, refl, sym, ◌∙◌, ap, subst, cond, Bool, true, false, arith, add-zero, append-nil, length-append, zero, suc, ◌==◌, ◌&&◌, inl, inr, ◌⊎◌}
-use Rattle.std.specs.Prelude.{filter, map, Option, Some, None, slice_get}
+use Rattle.std.proofs.Common.{ℕ, ◌≡◌, ◌≢◌, ◌+◌, ◌≤◌, ◌<◌, List, [], ◌∷◌, ◌++◌, length, refl, sym, ◌∙◌, ap, subst, Bool, true, false, arith, append-nil, length-append, zero, suc, inl, inr, ◌⊎◌}
+use Rattle.std.specs.Prelude.{filter, Option, Some, slice_get}
 use Rattle.std.specs.List.{AllByRecursion}
 use Rattle.std.proofs.lemmas.List.Elements.{filter-append}
 use Rattle.std.proofs.lemmas.Bool.{cases_lt}
@@ -10,7 +10,7 @@ use Rattle.ov_model.specs.declared.place.Place.{Place}
 use Rattle.ov_model.specs.declared.line.Line.{Line}
 use Rattle.ov_model.specs.declared.answer.Answer.{Answer}
 use Rattle.ov_model.specs.declared.replay.ReplayEntry.{ReplayEntry}
-use Rattle.ov_model.specs.Events.{Step, Judgement, is_at, of, shown, shown_in, judgement_of}
+use Rattle.ov_model.specs.Events.{Step, Judgement, is_at, of, shown, shown_in}
 use Rattle.ov_model.specs.Path.{Path, Material}
 use Rattle.ov_model.specs.Legal.{Meets, NeverFall, LaneMeets}
 

@@ -1,5 +1,5 @@
 -- What the definition of a peer id computes to.
-use Rattle.std.proofs.Common.{ℕ, ◌≡◌, ◌≤◌, ap, refl}
+use Rattle.std.proofs.Common.{ℕ, ◌≡◌, ◌≤◌, ap}
 use Rattle.std.specs.Prelude.{Option, Some, None}
 use Rattle.std.proofs.Math.Bridge.{le_prop}
 use mathlib.Core.Logic.{dite}

@@ -1,21 +1,19 @@
 -- What the steps of the peer table do to the dying list.
-use Rattle.std.proofs.Common.{ℕ, ◌≡◌, ◌+◌, List, [], ◌∷◌, ◌++◌, length, refl, sym, ◌∙◌, ap, subst, cond, Bool, true, false, arith, append-nil, if◌then◌else◌, ◌==◌, ◌&&◌, nat_le, max}
-use Rattle.std.specs.Prelude.{map, drop, Option, Some, None, is_none, is_some, position, remove, slice_get}
+use Rattle.std.proofs.Common.{ℕ, ◌≡◌, ◌+◌, List, [], ◌∷◌, ◌++◌, refl, sym, Bool, true, false, arith, append-nil, if◌then◌else◌, ◌==◌, ◌&&◌, nat_le}
+use Rattle.std.specs.Prelude.{map, Option, Some, None, is_none, is_some, position, slice_get}
 use Rattle.std.specs.List.{list_any}
 use Rattle.std.proofs.lemmas.Bool.Decides.{nat_tests}
 use Rattle.std.proofs.lemmas.List.{map-append}
 use Rattle.ov_base.specs.declared.address.Transport.{Transport}
-use Rattle.ov_model.specs.declared.ident.PeerId.{PeerId}
 use Rattle.ov_model.specs.declared.command.Attrs.{Attrs}
 use Rattle.ov_model.specs.declared.command.Reason.{Reason}
 use Rattle.ov_model.specs.declared.command.Command.{Command}
 use Rattle.ov_model.specs.declared.command.Command.TheVariants as command
-use Rattle.ov_model.specs.declared.reply.Reply.{Reply}
 use Rattle.ov_model.specs.declared.reply.Reply.TheVariants as reply
 use Rattle.ov_model.specs.declared.reply.Errno.{Errno}
 use Rattle.ov_model.specs.declared.reply.Errno.TheVariants.{NoEntry, Exists, Invalid, NoSpace}
 use Rattle.ov_model.specs.Tables.{Peer, Table, by_id, by_remote, shares_vpn}
-use Rattle.ov_model.specs.Step.{Outcome, refused, peer_of, peer_new, peer_new_at, peer_new_with, peer_get, peer_get_of, remove_peer, removed_at, removed_found, released, released_at, command_step}
+use Rattle.ov_model.specs.Step.{Outcome, refused, peer_of, peer_new, peer_new_at, peer_new_with, peer_get, peer_get_of, remove_peer, removed_at, removed_found, released, command_step}
 use Rattle.ov_model.specs.Path.{SomeOf, none, kept, removed}
 
 -- The serials of some peers.
@@ -46,7 +44,7 @@ lets_go_of t now serial rest (p ∷ ps) is all =
       may = rw (is, test) refl;
       reply_is = rw place refl;
       taken = rw place refl;
-      others = rw (place, is) others
+      others = rw (place, is) others;
     }
 
 pub lets_go : (t : Table) (now serial : ℕ) (rest : List ℕ) → serials t.dying ≡ serial ∷ rest → LetsGo t now serial rest

@@ -1,5 +1,5 @@
 -- The attribute checks of the netlink family: the command of a message, or its refusal.
-use Rattle.std.specs.Prelude.{ℕ, List, Bool, true, false, Option, Some, None, is_some, is_none, option_and_then, if◌then◌else◌, not, nat_lt, ◌==◌, ◌&&◌, ◌||◌, Result, Ok, Err, unwrap_or}
+use Rattle.std.specs.Prelude.{ℕ, List, Bool, false, Option, Some, None, is_some, option_and_then, if◌then◌else◌, not, nat_lt, ◌==◌, ◌&&◌, ◌||◌, Result, Ok, Err}
 use Rattle.ov_base.specs.declared.address.Addr.{Addr}
 use Rattle.ov_base.specs.declared.address.Addr.TheVariants.{V4, V6}
 use Rattle.ov_base.specs.declared.address.Transport.{Transport}

@@ -1,6 +1,6 @@
 -- One step of the serial peer table: the table after it, its reply, the keys that it took out of a
 -- slot, and its notifications. One definition for each act, its refusals in their order.
-use Rattle.std.specs.Prelude.{ℕ, ◌+◌, ◌≡◌, max, List, [], ◌∷◌, ◌++◌, Bool, true, Option, Some, None, is_some, is_none, if◌then◌else◌, nat_le, ◌==◌, ◌&&◌, ◌||◌, position, remove, slice_get, unwrap_or}
+use Rattle.std.specs.Prelude.{ℕ, ◌+◌, ◌≡◌, max, List, [], ◌∷◌, ◌++◌, Bool, true, Option, Some, None, is_some, is_none, if◌then◌else◌, nat_le, ◌==◌, ◌&&◌, position, remove, slice_get, unwrap_or}
 use Rattle.std.specs.List.{list_any}
 use Rattle.ov_base.specs.declared.address.Transport.{Transport}
 use Rattle.ov_model.specs.declared.ident.PeerId.{PeerId}

@@ -1,6 +1,5 @@
 -- The state of the peer table: lists in the order of making. The code may find peers by other means.
-use Rattle.std.specs.Prelude.{ℕ, List, [], Bool, Option, Some, None, find, nat_eq, ◌==◌, ◌&&◌, ◌||◌, true, false}
-use Rattle.std.specs.List.{list_any}
+use Rattle.std.specs.Prelude.{ℕ, List, [], Bool, Option, Some, find, ◌==◌, ◌||◌, false}
 use Rattle.std.specs.Str.{bytes_eq}
 use Rattle.ov_base.specs.declared.address.Transport.{Transport}
 use Rattle.ov_base.specs.Address.{same_transport}

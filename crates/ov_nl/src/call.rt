@@ -131,3 +131,64 @@ pub fn call_of(message: &NlMessage) -> Result<Command, Errno>
     };
     command_of(message.op, peer, id)
 }
+
+#[cfg(test)]
+mod tests {
+    use super::*;
+    use std::test::Fail;
+
+    const NOTHING_GIVEN: NlPeer = NlPeer {
+        id: None,
+        remote_ipv4: None,
+        remote_ipv6: None,
+        remote_ipv6_scope_id: None,
+        remote_port: None,
+        socket: None,
+        socket_netnsid: None,
+        vpn_ipv4: None,
+        vpn_ipv6: None,
+        local_ipv4: None,
+        local_ipv6: None,
+        local_port: None,
+        keepalive_interval: None,
+        keepalive_timeout: None,
+    };
+
+    #[test]
+    fn a_message_with_all_that_it_needs_is_a_command(rt: HostRuntime) -> Result<(), Fail> {
+        let peer = NlPeer {
+            id: Some(16777215),
+            remote_ipv4: Some([192, 0, 2, 1]),
+            remote_port: Some(1194),
+            vpn_ipv4: Some([10, 8, 0, 5]),
+            keepalive_interval: Some(10),
+            keepalive_timeout: Some(30),
+            ..NOTHING_GIVEN
+        };
+        let message = NlMessage {
+            op: NlOp::PeerNew,
+            ifindex: None,
+            peer: Some(peer),
+        };
+        let Ok(Command::PeerNew(attrs)) = call_of(&message) else {
+            panic!(rt; "refused");
+        };
+        assert_eq!(rt; attrs.id.get(), 16777215);
+        assert_eq!(rt; attrs.vpn4, Some([10, 8, 0, 5]));
+        assert!(rt; attrs.remote.is_some() && attrs.keepalive.is_some());
+        Ok(())
+    }
+
+    #[test]
+    fn a_message_without_a_peer_or_an_id_is_refused(rt: HostRuntime) -> Result<(), Fail> {
+        for peer in [None, Some(NOTHING_GIVEN)] {
+            let message = NlMessage {
+                op: NlOp::PeerGet,
+                ifindex: None,
+                peer,
+            };
+            assert_eq!(rt; call_of(&message), Err(Errno::Invalid));
+        }
+        Ok(())
+    }
+}
