@@ -1,12 +1,12 @@
 -- What each step does to the cells, on numbers alone.
-use Rattle.std.proofs.Common.{◌≡◌, ◌≢◌, ℕ, ◌+◌, ◌*◌, ◌<◌, ◌≤◌, List, [], ◌∷◌, ◌++◌, slice_index, refl, sym, ap, subst, ◌∙◌, arith}
+use Rattle.std.proofs.Common.{◌≡◌, ◌≢◌, ℕ, ◌+◌, ◌<◌, ◌≤◌, List, [], slice_index, refl, sym, ap, subst, arith}
 use mathlib.Core.Logic.{dite}
 use native.Mathlib.Decide.{ℕ_discrete, dec_lt}
 use Rattle.ov_base.specs.Sums.{count_of}
 use Rattle.ov_turn.specs.Lists.{has, newly, still, without}
 use Rattle.ov_turn.specs.Places.{Lists}
 use Rattle.ov_turn.specs.HoldRule.{IsCell, AreCells, MayBecome}
-use Rattle.ov_turn.proofs.Members.{has_le, newly_old, newly_new, still_in, still_out, without_has, others_has}
+use Rattle.ov_turn.proofs.Members.{newly_old, newly_new, still_in, still_out, without_has, others_has}
 
 -- One cell.
 module _ {count c live dying to_link to_unlink word held owed : ℕ} (k : IsCell count c live dying to_link to_unlink word held owed) where

@@ -1,12 +1,12 @@
 -- What one view counts for, and what follows for all of them.
-use Rattle.std.proofs.Common.{◌≡◌, ◌≢◌, ℕ, ◌+◌, ◌<◌, ◌≤◌, ◌==◌, Bool, true, false, ◌&&◌, if◌then◌else◌, List, set, refl, sym, ap, ◌∙◌, arith, eq-eqb, ne_eqb}
+use Rattle.std.proofs.Common.{◌≡◌, ◌≢◌, ℕ, ◌<◌, ◌≤◌, ◌==◌, Bool, true, false, ◌&&◌, if◌then◌else◌, List, set, refl, sym, ap, ◌∙◌, arith, eq-eqb, ne_eqb}
 use mathlib.Core.Option.{some}
 use mathlib.Core.Logic.{dite}
 use mathlib.Core.Bool.{true≢false}
 use native.Mathlib.Decide.{ℕ_discrete}
 use lib.ListN.{get_elem?}
-use Rattle.ov_base.specs.Sums.{total, between, count_of}
-use Rattle.ov_base.proofs.Sums.{total_set, total_le, part_le, pair_le, alone, between_le, between_is}
+use Rattle.ov_base.specs.Sums.{total, count_of}
+use Rattle.ov_base.proofs.Sums.{total_set}
 use Rattle.ov_turn.specs.declared.place.Place.{Place}
 use Rattle.ov_turn.specs.Lists.{times}
 use Rattle.ov_turn.specs.Places.{Lists, share, has_ticket, waits, is_inside, owns, holds, owes}

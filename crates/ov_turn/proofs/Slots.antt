@@ -6,7 +6,7 @@ use Rattle.ov_turn.specs.declared.inside.Inside.{Inside}
 use denote.Struct.Props.{props}
 use Rattle.ov_turn.specs.Places.{holds_fit, lists_fit}
 use Rattle.ov_turn.specs.Slots.{front, kept_in}
-use Rattle.ov_turn.specs.Insides.{inside_with, kept_of}
+use Rattle.ov_turn.specs.Insides.{inside_with}
 
 abbrev IsPlaced : {S I : Type 0} → Inside S I → Type 0
 IsPlaced it = (it.seat.me.0.queued ≡ true) × (it.seat.me.0.inside ≡ true) × (0 < it.seat.me.0.share)

@@ -1,5 +1,5 @@
 -- Each step of the lock keeps the rule.
-use Rattle.std.proofs.Common.{◌≡◌, ◌≢◌, ℕ, zero, suc, ◌+◌, ◌-◌, ◌*◌, ◌%◌, ◌^◌, ◌<◌, ◌≤◌, ◌==◌, Bool, true, false, ◌&&◌, if◌then◌else◌, List, [], ◌∷◌, ◌++◌, length, get_or, set, replicate, slice_index, inl, inr, refl, sym, ap, subst, ◌∙◌, arith, length-set, get_or-set_same, get_or-set_other, length-append, eq-eqb, ne_eqb}
+use Rattle.std.proofs.Common.{◌≡◌, ◌≢◌, ℕ, zero, suc, ◌+◌, ◌%◌, ◌<◌, ◌≤◌, ◌==◌, true, false, if◌then◌else◌, List, [], ◌∷◌, ◌++◌, length, get_or, set, replicate, slice_index, inl, inr, refl, sym, ap, subst, ◌∙◌, arith, length-set, get_or-set_same, get_or-set_other, length-append, eq-eqb, ne_eqb}
 use Rattle.std.proofs.lemmas.List.{append-nil, length-replicate, get_or-replicate}
 use lib.Seq.{set-get_or}
 use lib.ListN.{get_elem?, get_or-eq_default}
@@ -8,20 +8,20 @@ use mathlib.Core.Logic.{dite}
 use mathlib.Core.Bool.{true≢false}
 use mathlib.Core.List.{IsPrefix}
 use native.Mathlib.Decide.{ℕ_discrete, dec_le, dec_lt}
-use Rattle.atomic_table.specs.Table.{State, Me, step, keeps, takes, gives, rest, put_back, stepped, opening, Final, Seen, Allows, Splits, Joins}
+use Rattle.atomic_table.specs.Table.{State, Me, step, keeps, takes, gives, put_back, stepped, opening, Final, Seen, Allows, Splits, Joins}
 use Rattle.atomic_table.proofs.Lists.{at_last, set_here, set_else, set_again, one_turn}
 use Rattle.ov_base.specs.Sums.{total, between, count_of}
 use Rattle.ov_base.proofs.Sums.{total_set, total_snoc, total_append, total_le, part_le, pair_le, alone, each_set, each_other, each_snoc, between_in, between_out, between_le, between_is, between_more}
 use Rattle.ov_turn.specs.declared.place.Place.{Place}
-use Rattle.ov_turn.specs.Lists.{has, newly, still, times, AreOf, IsWhole, all_below}
-use Rattle.ov_turn.specs.Places.{Lists, share, has_ticket, waits, is_inside, owns, holds, owes, lists_of, lists_fit, blank}
-use Rattle.ov_turn.specs.HoldRule.{IsCell, AreCells, MayBecome}
+use Rattle.ov_turn.specs.Lists.{has, newly, AreOf, IsWhole, all_below}
+use Rattle.ov_turn.specs.Places.{Lists, share, has_ticket, waits, is_inside, owns, holds, owes, lists_of, lists_fit}
+use Rattle.ov_turn.specs.HoldRule.{AreCells, MayBecome}
 use Rattle.ov_turn.specs.TurnRule.{at_rest, whole, Fits, IsTurned}
 use Rattle.ov_turn.specs.Steps.{in_line, entered, appended, outside, holding, first_part, second_part, both_parts, no_part, queues, leaves, meets, Enters, enters, appends}
-use Rattle.ov_turn.proofs.Members.{has_le, has_counted, counted_has, below_all, below_pick, true_both, are_longer, are_append}
+use Rattle.ov_turn.proofs.Members.{below_all, below_pick, true_both, are_longer, are_append}
 use Rattle.ov_turn.proofs.Fronts.{prefix_self, prefix_more, prefix_shorter}
 use Rattle.ov_turn.proofs.CellSteps.{cells_stay, cells_append, cells_open, dying_cell}
-use Rattle.ov_turn.proofs.Counting.{total_same, ticket_yes, ticket_other, ticket_no, waits_yes, waits_no, inside_yes, inside_no, is_in, waits_share, idle_out, inside_served, unserved_out, holds_share, idle_owns, idle_holds, idle_owes}
+use Rattle.ov_turn.proofs.Counting.{total_same, ticket_yes, ticket_other, ticket_no, waits_yes, waits_no, inside_yes, inside_no, waits_share, idle_out, inside_served, unserved_out, idle_owns, idle_holds, idle_owes}
 
 -- the tickets that are out, when one more is drawn and when the first is done
 out_more : (served drawn t : ℕ) → served ≤ drawn → between served (drawn + 1) t ≡ between served drawn t + (if drawn == t then 1 else 0)

@@ -1,5 +1,5 @@
 -- What a step on a cell asks, and what it tells: for the crate of holds alone.
-use Rattle.std.specs.Prelude.{◌≡◌, ℕ, ◌+◌, ◌-◌, ◌%◌, ◌^◌, ◌<◌, true, List}
+use Rattle.std.specs.Prelude.{◌≡◌, ℕ, ◌+◌, ◌-◌, ◌%◌, ◌^◌, true, List}
 use mathlib.Core.Option.{none}
 use Rattle.atomic_table.specs.Table.{Me, Step, step, Allows}
 use Rattle.ov_turn.specs.declared.kept.Kept.{Ghosts}

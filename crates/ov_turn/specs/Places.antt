@@ -1,6 +1,6 @@
 -- What the view of one seat counts for: the rules add these numbers up over all views.
-use Rattle.std.specs.Prelude.{ℕ, ◌==◌, Bool, true, false, ◌&&◌, if◌then◌else◌, List, []}
-use Rattle.ov_base.specs.Sums.{total, count_of}
+use Rattle.std.specs.Prelude.{ℕ, ◌==◌, Bool, false, ◌&&◌, if◌then◌else◌, List, []}
+use Rattle.ov_base.specs.Sums.{count_of}
 use Rattle.ov_turn.specs.declared.place.Place.{Place}
 use Rattle.ov_turn.specs.Lists.{times, all_below}
 

@@ -1,4 +1,4 @@
-use Rattle.std.proofs.Common.{rules, ◌≡◌, ℕ, ◌+◌, true, List, ◌++◌, sym, ap, subst, ◌∙◌, arith}
+use Rattle.std.proofs.Common.{rules, ◌≡◌, ℕ, ◌+◌, true, sym, ap, subst, ◌∙◌, arith}
 use Rattle.ov_turn.specs.Lists.{all_below}
 use Rattle.ov_turn.specs.Places.{holds_fit}
 use Rattle.ov_turn.proofs.Members.{below_append}
