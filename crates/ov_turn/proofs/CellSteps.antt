@@ -25,6 +25,10 @@ module _ {count c live dying to_link to_unlink word held owed : ℕ} (k : IsCell
     owed_none = λ h. let q = k.owed_none (omega arith) in (omega arith, omega arith);
   }
 
+  -- no cell is owed twice
+  pub owed_le : owed ≤ 1
+  owed_le = dite (ℕ_discrete owed 0) (λ e. omega arith) (λ n. let o = k.owed_none (omega arith) in omega (arith, k.owed_one o.0 o.1))
+
   -- 0 becomes 1
   pub link_cell : {to_link' word' : ℕ} → c < count → to_link ≡ 1 → to_link' ≡ 0 → word' ≡ word + 1 → IsCell count c live dying to_link' to_unlink word' held owed
   link_cell lt is gone next = let none = k.fresh (omega arith) in let q = k.counted lt in let a = k.apart in let b = k.linking in let u = k.unlinking in record {

@@ -1,12 +1,12 @@
--- Lists of cells and of entries: what `pick` and `++` do to what is counted in them.
-use Rattle.std.proofs.Common.{◌≡◌, ℕ, ◌+◌, ◌<◌, ◌≤◌, ◌==◌, Bool, true, false, not, ◌&&◌, nat_lt, if◌then◌else◌, List, [], ◌∷◌, ◌++◌, refl, sym, ap, subst, ◌∙◌, arith, eq-eqb, ne_eqb}
+-- Lists of cells and of entries: what `filter` and `++` do to what is counted in them.
+use Rattle.std.proofs.Common.{◌≡◌, ℕ, ◌+◌, ◌<◌, ◌≤◌, ◌==◌, Bool, true, false, not, ◌&&◌, nat_lt, if◌then◌else◌, List, [], ◌∷◌, ◌++◌, filter, refl, sym, ap, subst, ◌∙◌, arith, eq-eqb, ne_eqb}
 use Rattle.std.proofs.lemmas.Bool.{lt-ltb, ltb-true}
 use mathlib.Core.Logic.{dite}
 use mathlib.Core.Bool.{true≢false}
 use native.Mathlib.Decide.{ℕ_discrete}
 use Rattle.atomic_table.proofs.Lists.{at_longer}
 use Rattle.ov_base.specs.Sums.{count_of}
-use Rattle.ov_turn.specs.Lists.{has, pick, newly, still, without, all_below, AreOf}
+use Rattle.ov_turn.specs.Lists.{has, newly, still, without, all_below, AreOf}
 
 -- Tests.
 pub both_true : (a b : Bool) → (a && b) ≡ true → (a ≡ true) × (b ≡ true)
@@ -48,15 +48,15 @@ counted_has c (x ∷ xs) h = by (x == c) (counted_has c xs) h
     by true k h = omega arith
     by false k h = let q = k h in omega arith
 
--- Picking.
-pub has_pick : (test : ℕ → Bool) (c : ℕ) (xs : List ℕ) → has c (pick test xs) ≡ (if test c then has c xs else 0)
-has_pick test c [] = if_zero (test c)
-has_pick test c (x ∷ xs) = by (test x) refl (has_pick test c xs)
+-- Filters.
+pub has_filter : (test : ℕ → Bool) (c : ℕ) (xs : List ℕ) → has c (filter test xs) ≡ (if test c then has c xs else 0)
+has_filter test c [] = if_zero (test c)
+has_filter test c (x ∷ xs) = by (test x) refl (has_filter test c xs)
   where
     Goal : Bool → Type 0
-    Goal b = has c (if b then x ∷ pick test xs else pick test xs) ≡ (if test c then (if x == c then 1 else has c xs) else 0)
+    Goal b = has c (if b then x ∷ filter test xs else filter test xs) ≡ (if test c then (if x == c then 1 else has c xs) else 0)
 
-    by : (b : Bool) → test x ≡ b → has c (pick test xs) ≡ (if test c then has c xs else 0) → has c (if b then x ∷ pick test xs else pick test xs) ≡ (if test c then (if x == c then 1 else has c xs) else 0)
+    by : (b : Bool) → test x ≡ b → has c (filter test xs) ≡ (if test c then has c xs else 0) → has c (if b then x ∷ filter test xs else filter test xs) ≡ (if test c then (if x == c then 1 else has c xs) else 0)
     by true e k =
         dite (ℕ_discrete x c)
         (λ h. let t : (x == c) ≡ true = eq-eqb x c h in let u : test c ≡ true = ap test (sym h) ∙ e in rw (t, u))
@@ -66,12 +66,12 @@ has_pick test c (x ∷ xs) = by (test x) refl (has_pick test c xs)
         (λ h. let u : test c ≡ false = ap test (sym h) ∙ e in let q = rw u at k in rw u q)
         (λ n. let t : (x == c) ≡ false = ne_eqb x c n in rw t k)
 
-pub count_pick : (test : ℕ → Bool) (c : ℕ) (xs : List ℕ) → count_of c (pick test xs) ≡ (if test c then count_of c xs else 0)
-count_pick test c [] = if_zero (test c)
-count_pick test c (x ∷ xs) = by (test x) (test c) refl refl (count_pick test c xs)
+pub count_filter : (test : ℕ → Bool) (c : ℕ) (xs : List ℕ) → count_of c (filter test xs) ≡ (if test c then count_of c xs else 0)
+count_filter test c [] = if_zero (test c)
+count_filter test c (x ∷ xs) = by (test x) (test c) refl refl (count_filter test c xs)
   where
-    by : (b d : Bool) → test x ≡ b → test c ≡ d → count_of c (pick test xs) ≡ (if test c then count_of c xs else 0)
-        → count_of c (if b then x ∷ pick test xs else pick test xs) ≡ (if test c then (if x == c then 1 else 0) + count_of c xs else 0)
+    by : (b d : Bool) → test x ≡ b → test c ≡ d → count_of c (filter test xs) ≡ (if test c then count_of c xs else 0)
+        → count_of c (if b then x ∷ filter test xs else filter test xs) ≡ (if test c then (if x == c then 1 else 0) + count_of c xs else 0)
     by true true e d k = let q = rw d at k in rw d (ap (λ n. (if x == c then 1 else 0) + n) q)
     by false false e d k = let q = rw d at k in rw d q
     by true false e d k =
@@ -87,30 +87,30 @@ count_pick test c (x ∷ xs) = by (test x) (test c) refl refl (count_pick test c
 
 -- what `newly` has
 pub newly_old : (c : ℕ) (before xs : List ℕ) → has c before ≡ 1 → has c (newly before xs) ≡ 0
-newly_old c before xs h = let t : (has c before == 0) ≡ false = rw h refl in has_pick (λ k. has k before == 0) c xs ∙ rw t
+newly_old c before xs h = let t : (has c before == 0) ≡ false = rw h refl in has_filter (λ k. has k before == 0) c xs ∙ rw t
 
 pub newly_new : (c : ℕ) (before xs : List ℕ) → has c before ≡ 0 → has c (newly before xs) ≡ has c xs
-newly_new c before xs h = let t : (has c before == 0) ≡ true = rw h refl in has_pick (λ k. has k before == 0) c xs ∙ rw t
+newly_new c before xs h = let t : (has c before == 0) ≡ true = rw h refl in has_filter (λ k. has k before == 0) c xs ∙ rw t
 
 -- what `still` has
 pub still_in : (c : ℕ) (after xs : List ℕ) → has c after ≡ 1 → count_of c (still after xs) ≡ count_of c xs
-still_in c after xs h = let t : (has c after == 1) ≡ true = rw h refl in count_pick (λ k. has k after == 1) c xs ∙ rw t
+still_in c after xs h = let t : (has c after == 1) ≡ true = rw h refl in count_filter (λ k. has k after == 1) c xs ∙ rw t
 
 pub still_out : (c : ℕ) (after xs : List ℕ) → has c after ≡ 0 → count_of c (still after xs) ≡ 0
-still_out c after xs h = let t : (has c after == 1) ≡ false = rw h refl in count_pick (λ k. has k after == 1) c xs ∙ rw t
+still_out c after xs h = let t : (has c after == 1) ≡ false = rw h refl in count_filter (λ k. has k after == 1) c xs ∙ rw t
 
 -- what `without` has
 pub without_has : (c : ℕ) (xs : List ℕ) → has c (without c xs) ≡ 0
-without_has c xs = let t : (c == c) ≡ true = eq-eqb c c refl in has_pick (λ x. not (x == c)) c xs ∙ rw t
+without_has c xs = let t : (c == c) ≡ true = eq-eqb c c refl in has_filter (λ x. not (x == c)) c xs ∙ rw t
 
 pub without_count : (c : ℕ) (xs : List ℕ) → count_of c (without c xs) ≡ 0
-without_count c xs = let t : (c == c) ≡ true = eq-eqb c c refl in count_pick (λ x. not (x == c)) c xs ∙ rw t
+without_count c xs = let t : (c == c) ≡ true = eq-eqb c c refl in count_filter (λ x. not (x == c)) c xs ∙ rw t
 
 pub others_has : (c d : ℕ) (xs : List ℕ) → (d ≡ c → ⊥) → has d (without c xs) ≡ has d xs
-others_has c d xs n = let t : (d == c) ≡ false = ne_eqb d c n in has_pick (λ x. not (x == c)) d xs ∙ rw t
+others_has c d xs n = let t : (d == c) ≡ false = ne_eqb d c n in has_filter (λ x. not (x == c)) d xs ∙ rw t
 
 pub others_count : (c d : ℕ) (xs : List ℕ) → (d ≡ c → ⊥) → count_of d (without c xs) ≡ count_of d xs
-others_count c d xs n = let t : (d == c) ≡ false = ne_eqb d c n in count_pick (λ x. not (x == c)) d xs ∙ rw t
+others_count c d xs n = let t : (d == c) ≡ false = ne_eqb d c n in count_filter (λ x. not (x == c)) d xs ∙ rw t
 
 -- one more
 pub count_snoc_here : (c : ℕ) (xs : List ℕ) → count_of c (xs ++ c ∷ []) ≡ count_of c xs + 1
@@ -145,8 +145,8 @@ pub below_append : (n : ℕ) (xs ys : List ℕ) → all_below n xs ≡ true → 
 below_append n [] ys p q = q
 below_append n (x ∷ xs) ys p q = let both = both_true (nat_lt x n) (all_below n xs) p in true_both (nat_lt x n) (all_below n (xs ++ ys)) both.0 (below_append n xs ys both.1 q)
 
-pub below_pick : (n : ℕ) (test : ℕ → Bool) (xs : List ℕ) → all_below n xs ≡ true → all_below n (pick test xs) ≡ true
-below_pick n test xs p = below_all n (pick test xs) (λ c h. below_has n c xs p (of (test c) (subst (λ (k : ℕ). 0 < k) (has_pick test c xs) h)))
+pub below_filter : (n : ℕ) (test : ℕ → Bool) (xs : List ℕ) → all_below n xs ≡ true → all_below n (filter test xs) ≡ true
+below_filter n test xs p = below_all n (filter test xs) (λ c h. below_has n c xs p (of (test c) (subst (λ (k : ℕ). 0 < k) (has_filter test c xs) h)))
   where
     of : (b : Bool) {k : ℕ} → 0 < (if b then k else 0) → 0 < k
     of true h = h

@@ -18,9 +18,9 @@ use Rattle.ov_turn.specs.Places.{Lists, share, has_ticket, waits, is_inside, own
 use Rattle.ov_turn.specs.HoldRule.{AreCells, MayBecome}
 use Rattle.ov_turn.specs.TurnRule.{at_rest, whole, Fits, IsTurned}
 use Rattle.ov_turn.specs.Steps.{in_line, entered, appended, outside, holding, first_part, second_part, both_parts, no_part, queues, leaves, meets, Enters, enters, appends}
-use Rattle.ov_turn.proofs.Members.{below_all, below_pick, true_both, are_longer, are_append}
+use Rattle.ov_turn.proofs.Members.{below_all, below_filter, true_both, are_longer, are_append}
 use Rattle.ov_turn.proofs.Fronts.{prefix_self, prefix_more, prefix_shorter}
-use Rattle.ov_turn.proofs.CellSteps.{cells_stay, cells_append, cells_open, dying_cell}
+use Rattle.ov_turn.proofs.CellSteps.{owed_le, cells_stay, cells_append, cells_open, dying_cell}
 use Rattle.ov_turn.proofs.Counting.{total_same, ticket_yes, ticket_other, ticket_no, waits_yes, waits_no, inside_yes, inside_no, waits_share, idle_out, inside_served, unserved_out, idle_owns, idle_holds, idle_owes}
 
 -- the tickets that are out, when one more is drawn and when the first is done
@@ -61,7 +61,7 @@ module _ {S I : Type 0} (history : S → List I) (live dying : S → List ℕ) (
       between_is r.served r.drawn v.ticket (omega (arith, r.out v.ticket))
 
   -- beside a seat that has the ticket that is served nobody is inside
-  others_out : (s : State S (Place I)) (r : T s) (id : ℕ) (v : Place I) → get_elem? s.views id ≡ some v → has_ticket r.served v ≡ 1
+  pub others_out : (s : State S (Place I)) (r : T s) (id : ℕ) (v : Place I) → get_elem? s.views id ≡ some v → has_ticket r.served v ≡ 1
       → (j : ℕ) (u : Place I) → j ≢ id → get_elem? s.views j ≡ some u → u.inside ≡ true → ⊥
   others_out s r id v at one j u ne there is =
       let p = pair_le (has_ticket r.served) s.views id j v u ne at there in
@@ -133,7 +133,7 @@ module _ {S I : Type 0} (history : S → List I) (live dying : S → List ℕ) (
   as_found s i hs vs r = subst (λ (ws : List ℕ). T record { words = ws; homes = hs; views = vs }) (sym (set-get_or s.words i 0)) r
 
   -- a cell that is listed is a cell of the table
-  listed : (s : State S (Place I)) (r : T s) (c : ℕ) → 0 < has c r.lists.live + has c r.lists.dying → c < count
+  pub listed : (s : State S (Place I)) (r : T s) (c : ℕ) → 0 < has c r.lists.live + has c r.lists.dying → c < count
   listed s r c h = dite (dec_lt c count) (λ lt. lt) (λ n. let z = (r.cells c).small (omega arith) in absurd (omega arith))
 
   -- The seat finds that its ticket is served, and the kept value is at home.
@@ -255,7 +255,7 @@ module _ {S I : Type 0} (history : S → List I) (live dying : S → List ℕ) (
       let live_fit = below_all v.cells (live y) (λ c h. small c (omega arith)) in
       let dying_fit = below_all v.cells (dying y) (λ c h. small c (omega arith)) in
       let fit : lists_fit w ≡ true = true_both (all_below v.cells (live y)) _ live_fit
-      (true_both (all_below v.cells (newly v.live (live y))) (all_below v.cells (newly v.dying (dying y))) (below_pick v.cells _ (live y) live_fit) (below_pick v.cells _ (dying y) dying_fit)) in (
+      (true_both (all_below v.cells (newly v.live (live y))) (all_below v.cells (newly v.dying (dying y))) (below_filter v.cells _ (live y) live_fit) (below_filter v.cells _ (dying y) dying_fit)) in (
         w,
         keeps,
         tt,
@@ -405,20 +405,21 @@ module _ {S I : Type 0} (history : S → List I) (live dying : S → List ℕ) (
   meet_step slots id me not_inside s r _ at _ =
       let v = me.0 in
       let fits = r.each id v at in
+      let once : (c : ℕ) → count_of c v.owes ≤ 1 = λ c. let p = part_le (owes c) s.views id v at in let o = owed_le (r.cells c) in omega arith in
       dite (dec_le (length v.also) (length v.seen))
       (λ le. (
         record v { also = [] },
         keeps,
         tt,
         as_found s 2 s.homes (set s.views id record v { also = [] }) (saw s r id v at not_inside v.seen fits.seen),
-        (refl, prefix_self v.seen, prefix_shorter v.also v.seen r.log fits.also fits.seen le, inl refl),
+        (refl, prefix_self v.seen, prefix_shorter v.also v.seen r.log fits.also fits.seen le, inl refl, once),
       ))
       (λ more. (
         record v { seen = v.also; also = [] },
         keeps,
         tt,
         as_found s 2 s.homes (set s.views id record v { seen = v.also; also = [] }) (saw s r id v at not_inside v.also fits.also),
-        (refl, prefix_shorter v.seen v.also r.log fits.seen fits.also (omega arith), prefix_self v.also, inr refl),
+        (refl, prefix_shorter v.seen v.also r.log fits.seen fits.also (omega arith), prefix_self v.also, inr refl, once),
       ))
 
   -- One share is cut off.

@@ -1,5 +1,5 @@
 -- Lists of cells, and entries with their positions.
-use Rattle.std.specs.Prelude.{◌≡◌, ℕ, ◌==◌, Bool, true, not, ◌&&◌, nat_lt, if◌then◌else◌, List, [], ◌∷◌, length}
+use Rattle.std.specs.Prelude.{◌≡◌, ℕ, ◌==◌, Bool, true, not, ◌&&◌, nat_lt, if◌then◌else◌, List, [], ◌∷◌, length, filter}
 use mathlib.Core.Option.{some}
 use lib.ListN.{get_elem?}
 use Rattle.ov_base.specs.Sums.{total, between}
@@ -9,22 +9,17 @@ abbrev pub has : ℕ → List ℕ → ℕ
 has c [] = 0
 has c (x ∷ xs) = if x == c then 1 else has c xs
 
--- the members that meet the test, in order
-abbrev pub pick : (ℕ → Bool) → List ℕ → List ℕ
-pick test [] = []
-pick test (x ∷ xs) = if test x then x ∷ pick test xs else pick test xs
-
 -- the members that the list before has not
 abbrev pub newly : List ℕ → List ℕ → List ℕ
-newly before xs = pick (λ c. has c before == 0) xs
+newly before xs = filter (λ c. has c before == 0) xs
 
 -- the members that the list after has too
 abbrev pub still : List ℕ → List ℕ → List ℕ
-still after xs = pick (λ c. has c after == 1) xs
+still after xs = filter (λ c. has c after == 1) xs
 
 -- the list with each c taken out
 abbrev pub without : ℕ → List ℕ → List ℕ
-without c xs = pick (λ x. not (x == c)) xs
+without c xs = filter (λ x. not (x == c)) xs
 
 -- whether each member is below n
 abbrev pub all_below : ℕ → List ℕ → Bool

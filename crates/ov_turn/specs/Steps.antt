@@ -1,5 +1,5 @@
 -- What each step tells its seat: of the step, the seat before, the number found and the seat after.
-use Rattle.std.specs.Prelude.{◌≡◌, ◌≢◌, ℕ, ◌+◌, ◌-◌, ◌%◌, ◌^◌, ◌<◌, ◌⊎◌, true, false, List, [], ◌∷◌, ◌++◌, length}
+use Rattle.std.specs.Prelude.{◌≡◌, ◌≢◌, ℕ, ◌+◌, ◌-◌, ◌%◌, ◌^◌, ◌<◌, ◌≤◌, ◌⊎◌, true, false, List, [], ◌∷◌, ◌++◌, length}
 use mathlib.Core.List.{IsPrefix}
 use Rattle.atomic_table.specs.Table.{Me, Step, rest}
 use Rattle.ov_base.specs.Sums.{count_of}
@@ -56,13 +56,14 @@ module _ {S I : Type 0} where
   abbrev pub leaves : Step S → Me S (Place I) → ℕ → Me S (Place I) → Type 0
   leaves st m n w = w ≡ (outside m.0, rest m.1)
 
-  -- the longer of the two histories is seen, and both begin it
+  -- the longer of the two histories is seen, and both begin it; and no cell is owed twice
   abbrev pub meets : Step S → Me S (Place I) → ℕ → Me S (Place I) → Type 0
   meets st m n w =
       (w ≡ (record m.0 { seen = w.0.seen; also = [] }, m.1))
       × IsPrefix m.0.seen w.0.seen
       × IsPrefix m.0.also w.0.seen
       × ((w.0.seen ≡ m.0.seen) ⊎ (w.0.seen ≡ m.0.also))
+      × ((c : ℕ) → count_of c m.0.owes ≤ 1)
 
 module _ {S I : Type 0} (history : S → List I) (live dying : S → List ℕ) where
   -- the seat's ticket is served: it has the kept value y, whose history begins with what was seen and which lists the cells that the seat holds and owes

@@ -73,7 +73,7 @@ impl<S: Kept> Turn<S> {
     }
 
     /// Puts two seats together. What each had seen begins the longer of the two, which is what the
-    /// one seat has seen then.
+    /// one seat has seen then. No cell is owed by both.
     pub fn join(&self, left: TurnSeat<S>, right: TurnSeat<S>) -> TurnSeat<S>
         requires left { IsSeatOf self.now left }
         requires right { IsSeatOf self.now right }
@@ -85,6 +85,7 @@ impl<S: Kept> Turn<S> {
         ensures own { own_of result ≡ own_of left ++ own_of right }
         ensures holds { holds_of result ≡ holds_of left ++ holds_of right }
         ensures owes { owes_of result ≡ owes_of left ++ owes_of right }
+        ensures once { (c : ℕ) → count_of c (owes_of result) ≤ 1 }
     {
         let TurnSeat { mut seat } = left;
         let TurnSeat { seat: other } = right;
