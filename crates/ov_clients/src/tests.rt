@@ -1,0 +1,24 @@
+use crate::drawing::draw_on_two_threads;
+use std::test::Fail;
+
+// Threads meet differently in each run, so each test makes its run this many times.
+const RUNS: u32 = 20;
+
+#[test]
+fn two_threads_draw_the_ids_1_to_2000_once_each(rt: HostRuntime) -> Result<(), Fail> {
+    for _run in 0..RUNS {
+        let (ids, others) = draw_on_two_threads(&rt, rt.alloc(), 1_000)?;
+        assert_eq!(rt; ids.len(), 1_000);
+        assert_eq!(rt; others.len(), 1_000);
+        let mut all = ids.into_vec();
+        all.extend_from_slice(others.as_slice())?;
+        all.sort()?;
+        let mut want = 1;
+        for id in &all {
+            assert_eq!(rt; *id, want);
+            want = id.wrapping_add(1);
+        }
+        assert_eq!(rt; want, 2_001);
+    }
+    Ok(())
+}

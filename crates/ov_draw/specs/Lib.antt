@@ -1,0 +1,4 @@
+pub mod Drawer
+pub mod Rule
+pub mod Steps
+pub mod Fields
