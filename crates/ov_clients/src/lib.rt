@@ -1,6 +1,8 @@
 //! Two threads at each kind of shared words, and what both together are proved to have done.
 #![tactic(auto)]
 
+pub mod appending;
 pub mod drawing;
+pub mod journal;
 #[cfg(test)]
 mod tests;
