@@ -3,6 +3,8 @@
 
 pub mod appending;
 pub mod drawing;
+pub mod holding;
 pub mod journal;
+pub mod stage;
 #[cfg(test)]
 mod tests;
