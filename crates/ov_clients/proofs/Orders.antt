@@ -1,8 +1,11 @@
 -- Entries of one thread, in order, and what one more changes.
-use Rattle.std.proofs.Common.{◌≡◌, ℕ, zero, suc, ◌+◌, ◌≤◌, List, [], ◌∷◌, ◌++◌, length, sym, refl, ap, ◌∙◌, subst, arith, length-append}
+use Rattle.std.proofs.Common.{◌≡◌, ℕ, ◌+◌, ◌≤◌, List, [], ◌∷◌, ◌++◌, length, refl, ap, ◌∙◌, arith, length-append}
 use mathlib.Core.List.{IsPrefix}
 use Rattle.ov_clients.specs.declared.journal.Entry.{Entry}
+use Rattle.ov_base.specs.Sums.{count_of}
+use Rattle.ov_turn.specs.Lists.{times, IsWhole}
 use Rattle.ov_clients.specs.Entries.{InOrder}
+use Rattle.ov_clients.proofs.Intervals.{length-interval}
 
 abbrev pub entry : ℕ → ℕ → Entry
 entry t k = record { thread = t; number = k }
@@ -19,3 +22,20 @@ InOrder-snoc t k low high p n (e ∷ es) o after is = (o.0, o.1, InOrder-snoc t 
 
 pub prefix_length : {A : Type 0} (xs ys : List A) → IsPrefix xs ys → length xs ≤ length ys
 prefix_length xs ys front = omega (arith, ap length front.1, length-append xs front.0)
+
+abbrev positions : List (ℕ × Entry) → List ℕ
+positions [] = []
+positions (e ∷ es) = e.0 ∷ positions es
+
+length-positions : (es : List (ℕ × Entry)) → length (positions es) ≡ length es
+length-positions [] = refl
+length-positions (e ∷ es) = omega (arith, length-positions es)
+
+times-positions : (p : ℕ) (es : List (ℕ × Entry)) → count_of p (positions es) ≡ times p es
+times-positions p [] = refl
+times-positions p (e ∷ es) = omega (arith, times-positions p es)
+
+-- a history is as long as the list of entries that are the whole of it
+pub length-whole : (log : List Entry) (es : List (ℕ × Entry)) → IsWhole log es → length es ≡ length log
+length-whole log es whole =
+    omega (arith, length-interval (positions es) 0 (length log) (λ n. times-positions n es ∙ whole.0 n), length-positions es)

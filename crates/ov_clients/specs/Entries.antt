@@ -12,9 +12,9 @@ abbrev pub InOrder : ℕ → ℕ → ℕ → List (ℕ × Entry) → ℕ → Typ
 InOrder thread k low [] high = low ≤ high
 InOrder thread k low (e ∷ es) high = (low ≤ e.0) × (e.1 ≡ record { thread = thread; number = k }) × InOrder thread (k + 1) (e.0 + 1) es high
 
--- each position of the history has one of the entries of two threads, and each thread's entries stand in it once, in order
+-- the history has the entries of two threads and no other: each position has one of them, and each thread's entries stand in it once, in order
 abbrev pub AreBoth : List Entry → ℕ → ℕ → Type 0
-AreBoth log first second = (own other : List (ℕ × Entry)) × (length own ≡ first) × (length other ≡ second) × InOrder 1 0 0 own (length log) × InOrder 2 0 0 other (length log) × IsWhole log (own ++ other)
+AreBoth log first second = (length log ≡ first + second) × ((own other : List (ℕ × Entry)) × (length own ≡ first) × (length other ≡ second) × InOrder 1 0 0 own (length log) × InOrder 2 0 0 other (length log) × IsWhole log (own ++ other))
 
 module _ {S : Type 0} {K : Ghosts S Entry} where
   -- a seat that has appended so many entries of a thread, and holds and owes nothing

@@ -1,9 +1,8 @@
 -- Where the entry was added, it stands behind all that the seat had seen.
-use Rattle.std.proofs.Common.{rules, ◌≡◌, ℕ, ◌+◌, ◌≤◌, ◌∙◌, List, [], ◌∷◌, ◌++◌, length, sym, ap, subst, arith, length-append}
-use Rattle.ov_turn.specs.Seats.{share_of, seen_of, own_of, holds_of, owes_of}
+use Rattle.std.proofs.Common.{rules, ◌≡◌, ℕ, ◌+◌, ◌∙◌, List, [], ◌∷◌, ◌++◌, length, ap, arith, length-append}
+use Rattle.ov_turn.specs.Seats.{seen_of, own_of}
 use Rattle.ov_turn.specs.Insides.{seen_in, own_in}
 use Rattle.ov_clients.specs.declared.journal.Entry.{Entry}
-use Rattle.ov_clients.specs.Entries.{InOrder, HasAppended}
 use Rattle.ov_clients.proofs.Orders.{entry, InOrder-wider, InOrder-snoc, prefix_length}
 use Rattle.ov_clients.proofs.appending.append_one.Goals as goal
 use Rattle.ov_clients.proofs.appending.append_one.Goals.{then-added, else-added}
