@@ -53,12 +53,7 @@ fn hold<R: Wait>(
 }
 
 /// Ends the thing and unlinks its cell, where the seat holds it.
-fn end<R: Wait>(
-    rt: &R,
-    turn: &Turn<Stage>,
-    seat: TurnSeat<Stage>,
-    held: &Held,
-) -> TurnSeat<Stage>
+fn end<R: Wait>(rt: &R, turn: &Turn<Stage>, seat: TurnSeat<Stage>, held: &Held) -> TurnSeat<Stage>
     requires { Keeps turn.now seat held.now }
     ensures keeps { Keeps turn.entry.now result held.entry.now }
     ensures share { share_of result ≡ share_of seat }
@@ -76,7 +71,11 @@ fn end<R: Wait>(
 }
 
 /// Gives the hold back, where the seat has one. It waits for nobody.
-fn release(turn: &Turn<Stage>, mut seat: TurnSeat<Stage>, mut held: Held) -> (TurnSeat<Stage>, Given)
+fn release(
+    turn: &Turn<Stage>,
+    mut seat: TurnSeat<Stage>,
+    mut held: Held,
+) -> (TurnSeat<Stage>, Given)
     requires { Keeps turn.now seat held }
     ensures turn { IsSeatOf turn.entry.now result.0 }
     ensures share { share_of result.0 ≡ share_of seat }

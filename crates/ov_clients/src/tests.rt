@@ -1,5 +1,6 @@
 use crate::appending::append_on_two_threads;
 use crate::drawing::draw_on_two_threads;
+use crate::holding::hold_on_two_threads;
 use std::test::Fail;
 
 // Threads meet differently in each run, so each test makes its run this many times.
@@ -44,6 +45,16 @@ fn two_threads_append_2000_entries_each_thread_s_in_order(rt: HostRuntime) -> Re
         }
         assert_eq!(rt; one, 1_000);
         assert_eq!(rt; two, 1_000);
+    }
+    Ok(())
+}
+
+#[test]
+fn exactly_one_of_two_threads_is_told_that_it_was_the_last(rt: HostRuntime) -> Result<(), Fail> {
+    for _run in 0..RUNS {
+        let told = hold_on_two_threads(&rt, rt.alloc())?;
+        let (one, two) = told.ok_or("the thing came to its end")?;
+        assert!(rt; one != two);
     }
     Ok(())
 }

@@ -1,5 +1,5 @@
 -- The seat holds the thing, so it isn't the last to let it go.
-use Rattle.std.proofs.Common.{rules, ◌≡◌, ◌<◌, ℕ, List, [], sym, ap, subst, ◌∙◌, arith}
+use Rattle.std.proofs.Common.{rules, ◌≡◌, ◌<◌, ℕ, List, sym, ap, subst, ◌∙◌, arith}
 use Rattle.ov_base.specs.Sums.{count_of}
 use Rattle.ov_turn.specs.Lists.{has, still}
 use Rattle.ov_turn.specs.Insides.{holds_in, dying_in}
@@ -20,7 +20,7 @@ returns-clause-keeps g c =
       holds = c.leave-2.ensures.holds ∙ c.unlink.ensures.holds ∙ holds;
       only = r.only;
       owes = c.leave-2.ensures.owes
-        ∙ owes_more c.unlink.result 0 _ _ more c.unlink.ensures.owes
-        ∙ c.append.ensures.owes
-        ∙ ap (λ (l : List ℕ). still (dying_in c.append.new.self) l) (c.enter-inside.ensures.owes ∙ r.owes);
+          ∙ owes_more c.unlink.result 0 _ _ more c.unlink.ensures.owes
+          ∙ c.append.ensures.owes
+          ∙ ap (λ (l : List ℕ). still (dying_in c.append.new.self) l) (c.enter-inside.ensures.owes ∙ r.owes);
     }

@@ -1,9 +1,9 @@
 -- At the end nobody holds the thing, so its release is owed, and by one seat alone.
-use Rattle.std.proofs.Common.{rules, ◌≡◌, ℕ, ◌<◌, ◌++◌, List, sym, ap, subst, ◌∙◌, arith}
+use Rattle.std.proofs.Common.{◌≡◌, ap, ◌∙◌, arith}
 use Rattle.std.proofs.Common.{◌+◌}
-use Rattle.ov_base.specs.Sums.{total, count_of}
+use Rattle.ov_base.specs.Sums.{count_of}
 use Rattle.ov_base.proofs.Sums.{total_append}
-use Rattle.ov_turn.specs.Lists.{has, without}
+use Rattle.ov_turn.specs.Lists.{has}
 use Rattle.ov_turn.specs.Seats.{holds_of, owes_of}
 use Rattle.ov_clients.specs.Stages.{dying_cells}
 use Rattle.ov_clients.proofs.Lasts.{none_left, one_last}
