@@ -1,1 +1,4 @@
+pub mod Intervals
 pub mod Ids
+pub mod Orders
+pub mod Lasts

@@ -1,0 +1,137 @@
+//! Two threads hold one thing and give it back.
+ghost use Rattle.std.specs.Prelude.{◌≡◌, [], IfOk, IfSome};
+ghost use Rattle.ov_turn.specs.Lists.{without};
+ghost use Rattle.ov_turn.specs.Seats.{IsSeatOf, share_of, holds_of, owes_of};
+ghost use Rattle.ov_hold.specs.Holds.{Owes};
+ghost use Rattle.ov_clients.specs.Stages.{Keeps, IsOneLast};
+
+use crate::stage::Stage;
+use ov_base::Memory;
+use ov_hold::{Held, get, give_back, link, unlink};
+use ov_model::Given;
+use ov_turn::{Turn, TurnSeat};
+use std::alloc::Global;
+use std::sync::Wait;
+use std::thread::{Threads, join};
+
+/// The cell of the thing.
+const CELL: u32 = 0;
+
+/// Makes the thing and links its cell, where it isn't there yet.
+fn make<R: Wait>(rt: &R, turn: &Turn<Stage>, seat: TurnSeat<Stage>) -> TurnSeat<Stage>
+    requires { Keeps turn.now seat [] }
+    ensures keeps { Keeps turn.entry.now result [] }
+    ensures share { share_of result ≡ share_of seat }
+{
+    let mut inside = turn.enter(rt, seat);
+    if !inside.kept().make() {
+        return inside.leave();
+    }
+    inside.append();
+    link(&mut inside, CELL);
+    inside.leave()
+}
+
+/// Gets a hold on the thing, where it is live.
+fn hold<R: Wait>(
+    rt: &R,
+    turn: &Turn<Stage>,
+    seat: TurnSeat<Stage>,
+    held: &mut Held,
+) -> TurnSeat<Stage>
+    requires keeps { Keeps turn.now seat held.old }
+    requires none { held.old ≡ [] }
+    ensures keeps { Keeps turn.entry.now result held.new }
+    ensures share { share_of result ≡ share_of seat }
+{
+    let mut inside = turn.enter(rt, seat);
+    if !inside.kept().is_live() {
+        return inside.leave();
+    }
+    get(&mut inside, held, CELL);
+    inside.leave()
+}
+
+/// Ends the thing and unlinks its cell, where the seat holds it.
+fn end<R: Wait>(rt: &R, turn: &Turn<Stage>, seat: TurnSeat<Stage>, held: &Held) -> TurnSeat<Stage>
+    requires { Keeps turn.now seat held.now }
+    ensures keeps { Keeps turn.entry.now result held.entry.now }
+    ensures share { share_of result ≡ share_of seat }
+{
+    if !held.has(CELL) {
+        return seat;
+    }
+    let mut inside = turn.enter(rt, seat);
+    if !inside.kept().end() {
+        return inside.leave();
+    }
+    inside.append();
+    unlink(&mut inside, CELL);
+    inside.leave()
+}
+
+/// Gives the hold back, where the seat has one. It waits for nobody.
+fn release(
+    turn: &Turn<Stage>,
+    mut seat: TurnSeat<Stage>,
+    mut held: Held,
+) -> (TurnSeat<Stage>, Given)
+    requires { Keeps turn.now seat held }
+    ensures turn { IsSeatOf turn.entry.now result.0 }
+    ensures share { share_of result.0 ≡ share_of seat }
+    ensures holds { holds_of result.0 ≡ without 0 held }
+    ensures owes { Owes result.1 0 [] (owes_of result.0) }
+{
+    if !held.has(CELL) {
+        return (seat, Given::More);
+    }
+    let given = give_back(turn, &mut seat, &mut held, CELL);
+    (seat, given)
+}
+
+/// Two threads hold one thing, which comes to its end meanwhile, and give it back. Exactly one of
+/// them is told that it was the last. `None` where the thing hasn't come to its end: where two
+/// threads couldn't hold it.
+///
+/// `Memory` is want of memory alone.
+pub fn hold_on_two_threads<R: Threads + Wait + Sync>(
+    rt: &R,
+    alloc: Global,
+) -> Result<Option<(Given, Given)>, Memory>
+    ensures { IfOk result (λ r. IfSome r (λ told. IsOneLast told.0 told.1)) }
+{
+    let Ok((turn, seat)) = Turn::new(alloc, Stage::Unmade, 1) else {
+        return Err(Memory);
+    };
+    let (one, two) = turn.split(seat);
+    let mut first = Held::new();
+    let mut second = Held::new();
+    let one = make(rt, &turn, one);
+    let one = hold(rt, &turn, one, &mut first);
+    let two = hold(rt, &turn, two, &mut second);
+    let one = end(rt, &turn, one, &first);
+    let lock = &turn;
+    let ((one, told), (two, also)) = join(
+        rt,
+        move || -> (TurnSeat<Stage>, Given)
+            requires { Keeps lock.now one first }
+            ensures turn { IsSeatOf lock.entry.now result.0 }
+            ensures share { share_of result.0 ≡ share_of one }
+            ensures holds { holds_of result.0 ≡ without 0 first }
+            ensures owes { Owes result.1 0 [] (owes_of result.0) }
+        { release(lock, one, first) },
+        move || -> (TurnSeat<Stage>, Given)
+            requires { Keeps lock.now two second }
+            ensures turn { IsSeatOf lock.entry.now result.0 }
+            ensures share { share_of result.0 ≡ share_of two }
+            ensures holds { holds_of result.0 ≡ without 0 second }
+            ensures owes { Owes result.1 0 [] (owes_of result.0) }
+        { release(lock, two, second) },
+    );
+    let seat = turn.join(one, two);
+    match turn.close(seat) {
+        Stage::Dying => Ok(Some((told, also))),
+        Stage::Unmade => Ok(None),
+        Stage::Live => Ok(None),
+    }
+}

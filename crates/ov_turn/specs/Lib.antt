@@ -1,0 +1,9 @@
+pub mod Lists
+pub mod Places
+pub mod HoldRule
+pub mod TurnRule
+pub mod Slots
+pub mod Steps
+pub mod Insides
+pub mod Cells
+pub mod Seats

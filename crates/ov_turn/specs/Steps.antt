@@ -1,0 +1,87 @@
+-- What each step tells its seat: of the step, the seat before, the number found and the seat after.
+use Rattle.std.specs.Prelude.{◌≡◌, ◌≢◌, ℕ, ◌+◌, ◌-◌, ◌%◌, ◌^◌, ◌<◌, ◌≤◌, ◌⊎◌, true, false, List, [], ◌∷◌, ◌++◌, length}
+use mathlib.Core.List.{IsPrefix}
+use Rattle.atomic_table.specs.Table.{Me, Step, rest}
+use Rattle.ov_base.specs.Sums.{count_of}
+use Rattle.ov_turn.specs.declared.place.Place.{Place}
+use Rattle.ov_turn.specs.Lists.{has, newly, still}
+use Rattle.ov_turn.specs.Places.{blank, lists_fit}
+
+module _ {I : Type 0} where
+  -- with the ticket t
+  abbrev pub in_line : Place I → ℕ → Place I
+  in_line v t = record v { queued = true; ticket = t }
+
+  -- inside, where the history and the cells are these
+  abbrev pub entered : Place I → List I → List ℕ → List ℕ → Place I
+  entered v log live dying = record v { inside = true; seen = log; live = live; dying = dying; to_link = []; to_unlink = [] }
+
+  -- with one entry more, at the end of what was seen
+  abbrev pub appended : Place I → I → List ℕ → List ℕ → Place I
+  appended v x live dying = record v {
+    seen = v.seen ++ x ∷ [];
+    own = v.own ++ (length v.seen, x) ∷ [];
+    owes = still dying v.owes;
+    live = live;
+    dying = dying;
+    to_link = newly v.live live;
+    to_unlink = newly v.dying dying;
+  }
+
+  -- outside again
+  abbrev pub outside : Place I → Place I
+  outside v = record v { queued = false; inside = false; live = []; dying = []; to_link = []; to_unlink = [] }
+
+  -- with other holds, other owed cells and other cells to link and to unlink
+  abbrev pub holding : Place I → List ℕ → List ℕ → List ℕ → List ℕ → Place I
+  holding v held owed to_link to_unlink = record v { holds = held; owes = owed; to_link = to_link; to_unlink = to_unlink }
+
+  -- split and join
+  abbrev pub first_part : Place I → Place I
+  first_part v = record v { share = v.share - 1 }
+
+  abbrev pub second_part : Place I → Place I
+  second_part v = blank v.cells 1 v.seen
+
+  abbrev pub both_parts : Place I → Place I → Place I
+  both_parts v w = record v { share = v.share + w.share; also = w.seen; own = v.own ++ w.own; holds = v.holds ++ w.holds; owes = v.owes ++ w.owes }
+
+  abbrev pub no_part : Place I
+  no_part = blank 0 0 []
+
+module _ {S I : Type 0} where
+  abbrev pub queues : Step S → Me S (Place I) → ℕ → Me S (Place I) → Type 0
+  queues st m n w = (t : ℕ) × (n ≡ t % 2 ^ 64) × (w ≡ (in_line m.0 t, m.1))
+
+  abbrev pub leaves : Step S → Me S (Place I) → ℕ → Me S (Place I) → Type 0
+  leaves st m n w = w ≡ (outside m.0, rest m.1)
+
+  -- the longer of the two histories is seen, and both begin it; and no cell is owed twice
+  abbrev pub meets : Step S → Me S (Place I) → ℕ → Me S (Place I) → Type 0
+  meets st m n w =
+      (w ≡ (record m.0 { seen = w.0.seen; also = [] }, m.1))
+      × IsPrefix m.0.seen w.0.seen
+      × IsPrefix m.0.also w.0.seen
+      × ((w.0.seen ≡ m.0.seen) ⊎ (w.0.seen ≡ m.0.also))
+      × ((c : ℕ) → count_of c m.0.owes ≤ 1)
+
+module _ {S I : Type 0} (history : S → List I) (live dying : S → List ℕ) where
+  -- the seat's ticket is served: it has the kept value y, whose history begins with what was seen and which lists the cells that the seat holds and owes
+  abbrev pub Enters : Me S (Place I) → Me S (Place I) → S → Type 0
+  Enters m w y =
+      (w ≡ (entered m.0 (history y) (live y) (dying y), (0, y) ∷ m.1))
+      × IsPrefix m.0.seen (history y)
+      × ((c : ℕ) → 0 < count_of c m.0.holds → has c (live y) + has c (dying y) ≡ 1)
+      × ((c : ℕ) → 0 < count_of c m.0.owes → has c (dying y) ≡ 1)
+      × (lists_fit w.0 ≡ true)
+
+  abbrev pub enters : Step S → Me S (Place I) → ℕ → Me S (Place I) → Type 0
+  enters st m n w = (n ≡ m.0.ticket % 2 ^ 64 → (y : S) × Enters m w y) × (n ≢ m.0.ticket % 2 ^ 64 → w ≡ m)
+
+  -- the kept value's history is what was seen and one entry more
+  abbrev pub appends : Step S → Me S (Place I) → ℕ → Me S (Place I) → Type 0
+  appends st m n w =
+      (y : S) (x : I)
+      → m.1 ≡ (0, y) ∷ []
+      → history y ≡ m.0.seen ++ x ∷ []
+      → (w ≡ (appended m.0 x (live y) (dying y), m.1)) × (lists_fit w.0 ≡ true)
