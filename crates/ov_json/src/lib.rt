@@ -5,4 +5,4 @@ pub mod grammar;
 pub mod line;
 pub mod member;
 
-pub use line::{read_line, LineStop};
+pub use line::{LineStop, read_line};

@@ -1,10 +1,12 @@
 //! What a JSON object has under a name, in the kinds that lines use.
 
-ghost use Rattle.std.specs.Prelude.{◌≡◌, ℕ, List, MatchOption, map, option_map};
+ghost use Rattle.std.specs.Prelude.{◌≡◌, ℕ, List, MatchOption, map, option_map, string_bytes};
+ghost use Rattle.std.specs.List.{list_all};
+ghost use Rattle.std.specs.BTreeMap.{keys};
 ghost use Rattle.serde_json.specs.View.{view};
 ghost use Rattle.ov_json.specs.Values as spec;
 
-use serde_json::Value;
+use serde_json::{Map, Value};
 use std::net::Ipv4Addr;
 
 /// The whole number from `least` to `most` under a name; `None` where there is none, or it has a sign, a
@@ -12,7 +14,10 @@ use std::net::Ipv4Addr;
 pub fn number_at(value: &Value, name: &str, least: u32, most: u32) -> Option<u32>
     ensures { result ≡ spec.number_at name.now least most (view value.now) }
 {
-    value.get(name).and_then(Value::as_u64).and_then(|n| within(least, most, n))
+    value
+        .get(name)
+        .and_then(Value::as_u64)
+        .and_then(|n| within(least, most, n))
 }
 
 /// The number, where it is from `least` to `most`.
@@ -61,7 +66,15 @@ pub fn has_only(value: &Value, names: &[&str]) -> bool
     ensures { result ≡ spec.has_only (map (λ n. n.now) names.now) (view value.now) }
 {
     match value.as_object() {
-        Some(members) => members.keys().all(|k| is_among(k.as_str(), names)),
+        Some(members) => all_among(members, names),
         None => false,
     }
+}
+
+/// Whether each name of an object is one of these.
+fn all_among(members: &Map<String, Value>, names: &[&str]) -> bool
+    ensures { result
+        ≡ list_all (λ k. spec.is_among (string_bytes k) (map (λ n. n.now) names.now)) (keys members.now) }
+{
+    members.keys().all(|name| is_among(name.as_str(), names))
 }
