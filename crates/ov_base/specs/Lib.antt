@@ -1,1 +1,5 @@
 pub mod Address
+pub mod InMemory
+pub mod Lends
+pub mod Loops
+pub mod Outside

@@ -2,9 +2,32 @@
 #![tactic(auto)]
 
 pub mod address;
+pub mod failures;
+mod front;
 pub mod list;
 pub mod memory;
+pub mod memory_sink;
+pub mod memory_source;
+pub mod read_source;
+pub mod reading;
+pub mod sink;
+pub mod source;
+pub mod steady_sink;
+pub mod steady_source;
+pub mod write_sink;
+pub mod writing;
 
 pub use address::{Addr, Transport};
+pub use failures::Failures;
 pub use list::{ListOf, Octets};
 pub use memory::Memory;
+pub use memory_sink::MemorySink;
+pub use memory_source::MemorySource;
+pub use read_source::ReadSource;
+pub use reading::{ReadEnd, Taken, read_to_end};
+pub use sink::{Sink, Took};
+pub use source::{Got, Source};
+pub use steady_sink::SteadySink;
+pub use steady_source::SteadySource;
+pub use write_sink::WriteSink;
+pub use writing::{WriteFault, write_all};

@@ -1,6 +1,7 @@
 //! A growing list that contracts see as the plain list of its items.
 
 ghost use Rattle.std.specs.Prelude.{◌≡◌, [], ◌∷◌, ◌++◌, length, OnOk, OnErr, IfOk, IfErr, IsTrue, ◌↔◌};
+ghost use Rattle.std.specs.Borrow.{sem};
 ghost use Rattle.std.specs.Cmp.Lexicographic.{pointwise, lists_per, lists_equiv};
 
 use crate::memory::Memory;
@@ -29,6 +30,8 @@ impl<T> Model for ListOf<T> {
 }
 
 impl<T> ListOf<T> {
+    ghost use Rattle.ov_base.specs.Lends.{lends_items};
+
     /// The empty list. It takes no memory until the first item.
     pub fn new(alloc: Global) -> ListOf<T>
         ensures { result ≡ [] }
@@ -58,6 +61,14 @@ impl<T> ListOf<T> {
         ensures { result.now ≡ self.now }
     {
         self.items.as_slice()
+    }
+
+    /// Lends the items for writing. Their number stays.
+    pub fn as_mut_slice(&mut self) -> &mut [T]
+        ensures* writes_back { sem 𝓛 (lends_items T.row self.entry result) }
+        ensures value { result.now ≡ self.old }
+    {
+        self.items.as_mut_slice()
     }
 
     /// The number of items.
