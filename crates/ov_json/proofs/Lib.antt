@@ -1,2 +1,4 @@
+pub mod Cutting
+pub mod Lines
 pub mod Names
 pub mod Options

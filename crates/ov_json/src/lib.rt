@@ -4,5 +4,8 @@
 pub mod grammar;
 pub mod line;
 pub mod member;
+pub mod pieces;
+pub mod script;
 
-pub use line::{LineStop, read_line};
+pub use line::{read_line, LineStop};
+pub use script::{read_script, Limit, ReadStop, Reading, MOST_BYTES};

@@ -1,6 +1,6 @@
 //! One line of a script, from its bytes.
 
-ghost use Rattle.std.specs.Prelude.{◌≡◌, Err, IfOk};
+ghost use Rattle.std.specs.Prelude.{◌≡◌, IfErr, IfOk};
 ghost use Rattle.ov_model.specs.declared.line.Line.{Line};
 ghost use Rattle.ov_json.specs.Grammar.{Says};
 
@@ -25,7 +25,7 @@ pub enum LineStop {
 /// they say none (RFC 8259 and the grammar of lines); want of memory alone is free.
 pub fn read_line(alloc: Global, line: &[u8], lanes: u32) -> Result<Line, LineStop>
     ensures ok { IfOk result (λ read. Says line.now lanes read) }
-    ensures bad { result ≡ Err LineStop.Bad → (read : Line) → ¬ (Says line.now lanes read) }
+    ensures bad { IfErr result (λ stop. stop ≡ LineStop.Bad → (read : Line) → ¬ (Says line.now lanes read)) }
 {
     let value = match Value::from_slice(alloc, line) {
         Ok(value) => value,
