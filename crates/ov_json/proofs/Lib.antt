@@ -1,4 +1,5 @@
 pub mod Cutting
+pub mod Judging
 pub mod Lines
 pub mod Names
 pub mod Options

@@ -1,8 +1,8 @@
 -- Which lines pieces say, and where a list of pieces has its first bad one.
-use Rattle.std.proofs.Common.{◌≡◌, ◌∙◌, ℕ, zero, suc, ◌+◌, List, [], ◌∷◌, ◌++◌, length, refl, sym, ap, subst, append_assoc, append-nil}
+use Rattle.std.proofs.Common.{◌≡◌, ◌∙◌, ℕ, zero, suc, ◌+◌, ◌<◌, ◌==◌, false, List, [], ◌∷◌, ◌++◌, length, refl, sym, ap, subst, append_assoc, append-nil, arith}
 use Rattle.ov_model.specs.declared.line.Line.{Line}
 use Rattle.ov_json.specs.Grammar.{Says}
-use Rattle.ov_json.specs.Reading.{Cut, cut, line_first, AreLines, AllGood, AreGood, IsFirstBad}
+use Rattle.ov_json.specs.Reading.{Cut, cut, line_first, AreLines, AllGood, AreGood, IsFirstBad, last_line}
 
 -- One more piece says one more line.
 pub lines_more : (lanes : ℕ) (pieces : List (List ℕ)) (lines : List Line) (piece : List ℕ) (line : Line) → AreLines lanes pieces lines → Says piece lanes line → AreLines lanes (pieces ++ piece ∷ []) (lines ++ line ∷ [])
@@ -77,3 +77,20 @@ kept_end lanes bytes rest lines k e =
     let P : List (List ℕ) → Type 0 = λ ps. AreLines lanes ps lines in
     let all : (cut bytes).ended ≡ k.done = k.pieces ∙ ap (λ (c : Cut). k.done ++ c.ended) e ∙ append-nil k.done in
     (subst P (sym all) k.said, sym (k.tail ∙ ap (λ (c : Cut). c.rest) e))
+
+-- A rest of some bytes is one line.
+pub last_is_one : (rest : List ℕ) → 0 < length rest → last_line rest ≡ rest ∷ []
+last_is_one [] h = absurd (omega arith)
+last_is_one (b ∷ bs) h = refl
+
+-- With the rest's line the lines are those of the pieces and the rest.
+pub with_last : (lanes : ℕ) (rest : List ℕ) (line : Line) (pieces : List (List ℕ)) (before after : List Line) → 0 < length rest → Says rest lanes line → after ≡ before ++ line ∷ [] → AreLines lanes pieces before → AreLines lanes (pieces ++ last_line rest) after
+with_last lanes rest line pieces before after some s e h =
+    let P : List (List ℕ) → Type 0 = λ last. AreLines lanes (pieces ++ last) after in
+    let Q : List Line → Type 0 = λ ls. AreLines lanes (pieces ++ rest ∷ []) ls in
+    subst P (sym (last_is_one rest some)) (subst Q (sym e) (lines_more lanes pieces before rest line h s))
+
+-- What the test for emptiness tells.
+pub not_empty : (rest : List ℕ) → false ≡ (length rest == 0) → 0 < length rest
+not_empty [] h = absurd (cc h)
+not_empty (b ∷ bs) h = omega arith

@@ -65,7 +65,10 @@ pub fn read_last(
     if rest.is_empty() {
         return Ok(());
     }
-    add_line(alloc, rest, lanes, lines)
+    if let Err(stop) = add_line(alloc, rest, lanes, lines) {
+        return Err(stop);
+    }
+    Ok(())
 }
 
 /// Reads one line and appends it.

@@ -70,15 +70,18 @@ pub fn read_script<S: Source>(alloc: Global, source: &mut S, lanes: u32) -> Read
 {
     let taken = read_to_end(alloc, source, most_bytes());
     let mut lines = Vec::new(alloc);
-    let ended = read_lines(alloc, taken.bytes.as_slice(), taken.end, lanes, &mut lines);
-    let good = lines.len() as u64;
-    let outcome = match ended {
-        Ok(()) => Ok(Script {
+    if let Err(stop) = read_lines(alloc, taken.bytes.as_slice(), taken.end, lanes, &mut lines) {
+        return Reading {
+            good: lines.len() as u64,
+            outcome: Err(stop),
+        };
+    }
+    Reading {
+        good: lines.len() as u64,
+        outcome: Ok(Script {
             lines: ListOf::of_vec(lines),
         }),
-        Err(stop) => Err(stop),
-    };
-    Reading { good, outcome }
+    }
 }
 
 /// Reads the lines of the bytes that were taken, up to the event at which reading them stops.
