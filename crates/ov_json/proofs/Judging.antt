@@ -71,8 +71,8 @@ first_event lanes bytes ended lines s (bad_line n) size judged is =
     let S : ReadEnd → Type 0 = λ e. Suits e (length bytes) in
     let named : (n ≡ length lines + 1) × (IsFirstBad lanes (ended_lines bytes) n ⊎ ((ended ≡ end.Whole) × IsFirstBad lanes (whole_lines bytes) n)) = subst J is judged in
     elim named.1 as (λ _. Early bytes lanes (bad_line n) ⊎ ((ended ≡ end.Whole) × Stop bytes lanes (bad_line n))) [
-      inl early ↦ inl early
-    | inr late ↦ inr (late.0, subst P (sym (counted_whole bytes (subst S late.0 size))) late.1)
+      | inl early ↦ inl early
+      | inr late ↦ inr (late.0, subst P (sym (counted_whole bytes (subst S late.0 size))) late.1)
     ]
 first_event lanes bytes ended lines s (passed Bytes) size judged is =
     let J : ReadStop → Type 0 = λ r. Judges lanes bytes ended lines (Err r) in
@@ -152,8 +152,8 @@ pub stops_known : (lanes : ℕ) (before now : Option (List ℕ)) (bytes : List �
 stops_known lanes before now bytes ended lines s k judged event is taken g =
     let P : List ℕ → Type 0 = λ b. Early b lanes event ⊎ ((now ≡ Some []) × Stop b lanes event) in
     subst P (gave_these before now bytes taken k.consumed g) (elim (first_event lanes bytes ended lines s event k.size judged is) as (λ _. Early bytes lanes event ⊎ ((now ≡ Some []) × Stop bytes lanes event)) [
-      inl early ↦ inl early
-    | inr late ↦ inr (at_end before now taken (k.at_end late.0) g, late.1)
+      | inl early ↦ inl early
+      | inr late ↦ inr (at_end before now taken (k.at_end late.0) g, late.1)
     ])
 
 pub no_stop_known : (lanes : ℕ) (before now : Option (List ℕ)) (bytes : List ℕ) (ended : ReadEnd) (lines : List Line) → Known before now bytes ended → (ended ≡ end.Whole) × AreLines lanes (whole_lines bytes) lines → (taken : List ℕ) → Gave before now taken → HasNoStop taken lanes

@@ -5,7 +5,9 @@ pub mod grammar;
 pub mod line;
 pub mod member;
 pub mod pieces;
+#[cfg(test)]
+mod reading_tests;
 pub mod script;
 
-pub use line::{read_line, LineStop};
-pub use script::{read_script, Limit, ReadStop, Reading, MOST_BYTES};
+pub use line::{LineStop, read_line};
+pub use script::{Limit, MOST_BYTES, ReadStop, Reading, read_script};

@@ -5,7 +5,7 @@ ghost use Rattle.ov_model.specs.declared.line.Line.{Line};
 ghost use Rattle.ov_json.specs.Grammar.{Says};
 ghost use Rattle.ov_json.specs.Reading as spec;
 
-use crate::line::{read_line, LineStop};
+use crate::line::{LineStop, read_line};
 use memchr::memchr;
 use ov_model::Line;
 use std::alloc::Global;
@@ -72,12 +72,7 @@ pub fn read_last(
 }
 
 /// Reads one line and appends it.
-fn add_line(
-    alloc: Global,
-    piece: &[u8],
-    lanes: u32,
-    lines: &mut Vec<Line>,
-) -> Result<(), LineStop>
+fn add_line(alloc: Global, piece: &[u8], lanes: u32, lines: &mut Vec<Line>) -> Result<(), LineStop>
     ensures ok { OnOk result ((line : Line) × Says piece.now lanes line × (lines.new.items ≡ lines.old.items ++ line ∷ [])) }
     ensures err { OnErr result (lines.new.items ≡ lines.old.items) }
     ensures bad { IfErr result (λ stop. stop ≡ LineStop.Bad → (line : Line) → ¬ (Says piece.now lanes line)) }

@@ -1,10 +1,12 @@
-use crate::{read_line, read_script, Limit, LineStop, ReadStop, Reading};
+use crate::{LineStop, ReadStop, Reading, read_line, read_script};
 use ov_base::{ListOf, Memory, MemorySource, Octets, SteadySource};
 use ov_model::{Deed, Line, NlMessage, NlOp, NlPeer};
 use std::alloc::Global;
 use std::test::Fail;
 
-const NEW: &[u8] = br#"{"at":0,"do":"peer-new","lane":0,"peer":{"id":5,"remote-ipv4":"192.0.2.1","remote-port":1194,"vpn-ipv4":"10.8.0.5"}}"#;
+const NEW: &[u8] =
+    br#"{"at":0,"do":"peer-new","lane":0,"peer":{"id":5,"remote-ipv4":"192.0.2.1","remote-port":1194,"vpn-ipv4":"10.8.0.5"}}"#;
+
 const GET: &[u8] = br#"{"at":1,"do":"peer-get","lane":0,"peer":{"id":5}}"#;
 
 /// A message that names its peer by the id alone.
@@ -40,11 +42,13 @@ fn named(lane: u32, at: u32, op: NlOp, id: u32) -> Line {
 #[test]
 fn a_peer_new_line_gives_its_four_attributes(rt: HostRuntime) {
     let read = read_line(rt.alloc(), NEW, 1);
-    let Ok(Line {
-        lane: 0,
-        at: 0,
-        deed: Deed::Netlink(message),
-    }) = read
+    let Ok(
+        Line {
+            lane: 0,
+            at: 0,
+            deed: Deed::Netlink(message),
+        },
+    ) = read
     else {
         panic!(rt; "no line on lane 0 at 0");
     };
@@ -94,7 +98,10 @@ fn lines_of_the_grammar_are_read(rt: HostRuntime) {
         ),
     ];
     for (number, (bytes, lanes, line)) in rows.iter().enumerate() {
-        assert!(rt; read_line(rt.alloc(), bytes, *lanes).as_ref() == Ok(line), "row {number}");
+        assert!(rt;
+            read_line(rt.alloc(), bytes, *lanes).as_ref() == Ok(line),
+            "row {number}"
+        );
     }
 }
 
@@ -146,7 +153,10 @@ fn lines_outside_the_grammar_are_bad(rt: HostRuntime) {
         br#"{"at":0,"do":"peer-new","lane":0,"peer":{"id":5}}"#,
     ];
     for (number, bytes) in rows.iter().enumerate() {
-        assert!(rt; read_line(rt.alloc(), bytes, 1) == Err(LineStop::Bad), "row {number}");
+        assert!(rt;
+            read_line(rt.alloc(), bytes, 1) == Err(LineStop::Bad),
+            "row {number}"
+        );
     }
     assert!(rt; read_line(rt.alloc(), GET, 0) == Err(LineStop::Bad));
 }
@@ -162,8 +172,14 @@ fn a_script_is_its_lines_in_order(rt: HostRuntime) -> Result<(), Fail> {
     // The text, and how many lines it has.
     let rows: [(&[u8], usize); 4] = [
         (b"", 0),
-        (b"{\"at\":1,\"do\":\"peer-get\",\"lane\":0,\"peer\":{\"id\":5}}", 1),
-        (b"{\"at\":1,\"do\":\"peer-get\",\"lane\":0,\"peer\":{\"id\":5}}\n", 1),
+        (
+            b"{\"at\":1,\"do\":\"peer-get\",\"lane\":0,\"peer\":{\"id\":5}}",
+            1,
+        ),
+        (
+            b"{\"at\":1,\"do\":\"peer-get\",\"lane\":0,\"peer\":{\"id\":5}}\n",
+            1,
+        ),
         (
             b"{\"at\":1,\"do\":\"peer-get\",\"lane\":0,\"peer\":{\"id\":5}}\n{\"at\":1,\"do\":\"peer-get\",\"lane\":0,\"peer\":{\"id\":6}}",
             2,
@@ -191,13 +207,25 @@ fn the_first_bad_line_stops_a_script(rt: HostRuntime) -> Result<(), Fail> {
     let rows: [(&[u8], u64); 5] = [
         (b"\n", 1),
         (b"{", 1),
-        (b"{\"at\":1,\"do\":\"peer-get\",\"lane\":0,\"peer\":{\"id\":5}}\n\n", 2),
-        (b"{\"at\":1,\"do\":\"peer-get\",\"lane\":0,\"peer\":{\"id\":5}}\n{", 2),
-        (b"{\"at\":1,\"do\":\"peer-get\",\"lane\":0,\"peer\":{\"id\":5}}\n{\n{", 2),
+        (
+            b"{\"at\":1,\"do\":\"peer-get\",\"lane\":0,\"peer\":{\"id\":5}}\n\n",
+            2,
+        ),
+        (
+            b"{\"at\":1,\"do\":\"peer-get\",\"lane\":0,\"peer\":{\"id\":5}}\n{",
+            2,
+        ),
+        (
+            b"{\"at\":1,\"do\":\"peer-get\",\"lane\":0,\"peer\":{\"id\":5}}\n{\n{",
+            2,
+        ),
     ];
     for (bytes, number) in rows {
         let reading = reading_of(rt.alloc(), bytes)?;
-        assert!(rt; reading.outcome == Err(ReadStop::Bad(number)), "line {number}");
+        assert!(rt;
+            reading.outcome == Err(ReadStop::Bad(number)),
+            "line {number}"
+        );
         assert_eq!(rt; reading.good, number - 1);
     }
     Ok(())
@@ -207,8 +235,14 @@ fn the_first_bad_line_stops_a_script(rt: HostRuntime) -> Result<(), Fail> {
 fn a_failed_read_stops_a_script_behind_its_bad_line(rt: HostRuntime) -> Result<(), Fail> {
     // The text, and what the second read's failure gives after 16 bytes.
     let rows: [(&[u8], ReadStop); 2] = [
-        (b"{\"at\":1,\"do\":\"peer-get\",\"lane\":0,\"peer\":{\"id\":5}}\n", ReadStop::Read),
-        (b"\n{\"at\":1,\"do\":\"peer-get\",\"lane\":0,\"peer\":{\"id\":5}}\n", ReadStop::Bad(1)),
+        (
+            b"{\"at\":1,\"do\":\"peer-get\",\"lane\":0,\"peer\":{\"id\":5}}\n",
+            ReadStop::Read,
+        ),
+        (
+            b"\n{\"at\":1,\"do\":\"peer-get\",\"lane\":0,\"peer\":{\"id\":5}}\n",
+            ReadStop::Bad(1),
+        ),
     ];
     for (bytes, stop) in rows {
         let mut failing = ListOf::new(rt.alloc());
@@ -217,20 +251,6 @@ fn a_failed_read_stops_a_script_behind_its_bad_line(rt: HostRuntime) -> Result<(
         let reading = read_script(rt.alloc(), &mut source, 1);
         assert!(rt; reading.outcome == Err(stop));
         assert_eq!(rt; reading.good, 0);
-    }
-    Ok(())
-}
-
-#[test]
-fn a_script_past_the_most_bytes_is_past_a_limit(rt: HostRuntime) -> Result<(), Fail> {
-    for (size, stop) in [
-        (67_108_864, ReadStop::Bad(1)),
-        (67_108_865, ReadStop::Limit(Limit::Bytes)),
-    ] {
-        let bytes = ListOf::of_vec(Vec::from_elem(rt.alloc(), b' ', size)?);
-        let mut source = SteadySource::new(bytes, 65_536);
-        let reading = read_script(rt.alloc(), &mut source, 1);
-        assert!(rt; reading.outcome == Err(stop), "size {size}");
     }
     Ok(())
 }

@@ -6,7 +6,7 @@ ghost use Rattle.ov_json.specs.Reading as spec;
 
 use crate::line::LineStop;
 use crate::pieces::{read_ended, read_last};
-use ov_base::{read_to_end, ListOf, ReadEnd, Source};
+use ov_base::{ListOf, ReadEnd, Source, read_to_end};
 use ov_model::{Line, Script};
 use std::alloc::Global;
 use thiserror::Error;
