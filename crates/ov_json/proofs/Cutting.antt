@@ -1,5 +1,5 @@
 -- How bytes are cut: at the first line end, or not at all.
-use Rattle.std.proofs.Common.{◌≡◌, ◌∙◌, ℕ, zero, suc, ◌+◌, ◌-◌, ◌<◌, ◌==◌, Bool, true, false, if◌then◌else◌, List, [], ◌∷◌, ◌++◌, length, take, drop, slice_index, refl, sym, ap, arith, add-one, length-drop}
+use Rattle.std.proofs.Common.{◌≡◌, ◌∙◌, ℕ, zero, suc, ◌+◌, ◌-◌, ◌<◌, ◌==◌, Bool, true, false, if◌then◌else◌, List, [], ◌∷◌, length, take, drop, slice_index, refl, sym, ap, arith, add-one, length-drop}
 use Rattle.std.proofs.Math.Seq.{take-length}
 use Rattle.ov_json.specs.Reading.{Cut, cut, line_first, byte_first}
 

@@ -1,5 +1,5 @@
 -- From the lines that were read to what the whole stream shows.
-use Rattle.std.proofs.Common.{◌≡◌, ◌∙◌, ℕ, ◌+◌, ◌<◌, ◌≤◌, ◌⊎◌, inl, inr, Bool, true, false, if◌then◌else◌, nat_le, List, [], ◌∷◌, ◌++◌, length, take, refl, sym, ap, subst, append_assoc, append-nil, arith, Result, Ok, Err, Option, Some}
+use Rattle.std.proofs.Common.{◌≡◌, ◌∙◌, ℕ, ◌+◌, ◌<◌, ◌≤◌, ◌⊎◌, inl, inr, Bool, true, false, if◌then◌else◌, nat_le, List, [], ◌∷◌, ◌++◌, length, take, refl, sym, ap, subst, append_assoc, append-nil, arith, Err, Option, Some}
 use Rattle.std.proofs.lemmas.List.{take_all, append_cancel_right}
 use Rattle.std.proofs.lemmas.Bool.{leb-true, le-leb}
 use Rattle.std.specs.Io.KnownBytes.{Consumes, IsAtEnd}
@@ -7,12 +7,11 @@ use Rattle.ov_base.specs.Loops.{EndsBecause}
 use Rattle.ov_base.specs.declared.reading.ReadEnd.{ReadEnd}
 use Rattle.ov_base.specs.declared.reading.ReadEnd.TheVariants as end
 use Rattle.ov_model.specs.declared.line.Line.{Line}
-use Rattle.ov_model.specs.declared.line.Script.{Script}
 use Rattle.ov_json.specs.declared.script.ReadStop.{ReadStop}
 use Rattle.ov_json.specs.declared.script.ReadStop.TheVariants as stop
 use Rattle.ov_json.specs.declared.script.Limit.TheVariants.{Bytes}
 use Rattle.ov_json.specs.Grammar.{Says}
-use Rattle.ov_json.specs.Reading.{most_bytes, cut, last_line, ended_lines, whole_lines, counted_lines, AreLines, AllGood, AreGood, IsFirstBad, Event, bad_line, passed, Early, Stop, HasNoStop, IsScript, Gave, stop_of, Counts, Suits, Judges}
+use Rattle.ov_json.specs.Reading.{most_bytes, cut, last_line, ended_lines, whole_lines, counted_lines, AreLines, AreGood, IsFirstBad, Event, bad_line, passed, Early, Stop, HasNoStop, Gave, stop_of, Counts, Suits, Judges}
 use Rattle.ov_json.proofs.Lines.{lines_count, none_bad}
 
 -- A short stream's front is all of it.

@@ -1,8 +1,8 @@
 -- Which lines pieces say, and where a list of pieces has its first bad one.
-use Rattle.std.proofs.Common.{◌≡◌, ◌∙◌, ℕ, zero, suc, ◌+◌, ◌<◌, ◌==◌, false, List, [], ◌∷◌, ◌++◌, length, refl, sym, ap, subst, append_assoc, append-nil, arith}
+use Rattle.std.proofs.Common.{◌≡◌, ◌∙◌, ℕ, suc, ◌+◌, ◌<◌, ◌==◌, false, List, [], ◌∷◌, ◌++◌, length, refl, sym, ap, subst, append_assoc, append-nil, arith}
 use Rattle.ov_model.specs.declared.line.Line.{Line}
 use Rattle.ov_json.specs.Grammar.{Says}
-use Rattle.ov_json.specs.Reading.{Cut, cut, line_first, AreLines, AllGood, AreGood, IsFirstBad, last_line}
+use Rattle.ov_json.specs.Reading.{Cut, cut, line_first, AreLines, AreGood, IsFirstBad, last_line}
 
 -- One more piece says one more line.
 pub lines_more : (lanes : ℕ) (pieces : List (List ℕ)) (lines : List Line) (piece : List ℕ) (line : Line) → AreLines lanes pieces lines → Says piece lanes line → AreLines lanes (pieces ++ piece ∷ []) (lines ++ line ∷ [])

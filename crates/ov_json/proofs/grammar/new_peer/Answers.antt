@@ -1,8 +1,5 @@
 -- The parts that were found are those of the definition.
-use Rattle.std.proofs.Common.{rules, ◌≡◌, refl}
-use Rattle.serde_json.specs.View.{view}
-use Rattle.ov_model.specs.declared.netlink.NlPeer.{NlPeer}
-use Rattle.ov_json.specs.Grammar as spec
+use Rattle.std.proofs.Common.{rules, refl}
 use Rattle.ov_json.proofs.grammar.new_peer.Goals as goal
 
 pub returns-in_err-remote : goal.returns-in_err-remote

@@ -1,5 +1,5 @@
 -- What the definition calls the text is the text that was parsed.
-use Rattle.std.proofs.Common.{rules, ◌≡◌, ◌∙◌, sym, subst, ℕ, List}
+use Rattle.std.proofs.Common.{◌≡◌, ◌∙◌, sym, subst, ℕ, List}
 use Rattle.std.specs.Net.Grammar.{IsDotted}
 use Rattle.serde_json.specs.View.{view}
 use Rattle.ov_json.specs.Values as spec

@@ -1,5 +1,5 @@
 -- The members of the value are those of the map in it.
-use Rattle.std.proofs.Common.{rules, ◌≡◌, ◌∙◌, ℕ, List, map, Bor}
+use Rattle.std.proofs.Common.{◌∙◌, ℕ, List, map, Bor}
 use Rattle.serde_json.specs.View.{view, members_view}
 use Rattle.ov_json.proofs.Names.{all_members, object_names}
 use Rattle.ov_json.proofs.member.has_only.Goals as goal

@@ -1,5 +1,5 @@
 -- The cut at the place that was found.
-use Rattle.std.proofs.Common.{ℕ, ◌<◌, ◌≤◌, arith}
+use Rattle.std.proofs.Common.{arith}
 use Rattle.ov_json.proofs.Cutting.{cut_at_place, cut_none}
 use Rattle.ov_json.proofs.pieces.first_piece.Goals as goal
 

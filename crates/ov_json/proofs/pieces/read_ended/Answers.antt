@@ -1,5 +1,5 @@
 -- Each turn reads the first of the lines that are left.
-use Rattle.std.proofs.Common.{◌≡◌, ◌+◌, List, length, sym, subst}
+use Rattle.std.proofs.Common.{◌+◌, List, length, sym, subst}
 use Rattle.ov_model.specs.declared.line.Line.{Line}
 use Rattle.ov_json.specs.Reading as spec
 use Rattle.ov_json.proofs.Lines.{Kept, kept_more, kept_bad, kept_good}

@@ -1,5 +1,5 @@
 -- A whole stream's lines are those that were ended and the last one.
-use Rattle.std.proofs.Common.{◌≡◌, ◌+◌, ◌≤◌, ◌⊎◌, inr, ℕ, List, length, rules, ap, subst}
+use Rattle.std.proofs.Common.{◌≡◌, ◌+◌, ◌≤◌, inr, ℕ, length, rules, ap, subst}
 use Rattle.ov_base.specs.declared.reading.ReadEnd.{ReadEnd}
 use Rattle.ov_json.specs.Reading as spec
 use Rattle.ov_json.proofs.Judging.{all_good, whole_said, last_bad}

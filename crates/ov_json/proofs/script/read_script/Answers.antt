@@ -1,5 +1,5 @@
 -- What the lines show of the bytes that were read holds of those that the source tells it gave.
-use Rattle.std.proofs.Common.{◌≡◌, ℕ, List, length, rules}
+use Rattle.std.proofs.Common.{◌≡◌, length, rules}
 use Rattle.ov_json.proofs.Judging.{known_of, stops_known, no_stop_known, not_early_known, counts_known, good_known}
 use Rattle.ov_json.proofs.script.read_script.Goals as goal
 
