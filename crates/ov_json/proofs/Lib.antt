@@ -1,1 +1,6 @@
 pub mod NoFloat
+pub mod Cutting
+pub mod Judging
+pub mod Lines
+pub mod Names
+pub mod Options

@@ -1,2 +1,5 @@
 pub mod Print
 pub mod Summary
+pub mod Values
+pub mod Grammar
+pub mod Reading

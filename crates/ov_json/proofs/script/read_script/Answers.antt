@@ -1,0 +1,51 @@
+-- What the lines show of the bytes that were read holds of those that the source tells it gave.
+use Rattle.std.proofs.Common.{◌≡◌, length, rules}
+use Rattle.ov_json.proofs.Judging.{known_of, stops_known, no_stop_known, not_early_known, counts_known, good_known}
+use Rattle.ov_json.proofs.script.read_script.Goals as goal
+
+pub returns-in-Err-clause-stops : goal.returns-in-Err-clause-stops
+returns-in-Err-clause-stops g c =
+    let before = g.S.Source.left c.args.source.now in
+    let now = g.S.Source.left c.read_to_end-taken.new.source in
+    let bytes = c.as_slice.result.now in
+    let ended = c.read_to_end-taken.result.end in
+    let known = known_of before now c.read_to_end-taken.result.bytes bytes ended c.most_bytes.result (g.S.Source.faults c.args.source.now) (g.S.Source.faults c.read_to_end-taken.new.source) c.read_to_end-taken.ensures.taken c.read_to_end-taken.ensures.end c.most_bytes.ensures c.as_slice.ensures in
+    stops_known c.args.lanes before now bytes ended c.read_lines.new.lines.items c.in-Err.stop known c.in-Err.ensures.judged
+
+pub returns-in-Err-clause-not_early : goal.returns-in-Err-clause-not_early
+returns-in-Err-clause-not_early g c =
+    let before = g.S.Source.left c.args.source.now in
+    let now = g.S.Source.left c.read_to_end-taken.new.source in
+    let bytes = c.as_slice.result.now in
+    let ended = c.read_to_end-taken.result.end in
+    let known = known_of before now c.read_to_end-taken.result.bytes bytes ended c.most_bytes.result (g.S.Source.faults c.args.source.now) (g.S.Source.faults c.read_to_end-taken.new.source) c.read_to_end-taken.ensures.taken c.read_to_end-taken.ensures.end c.most_bytes.ensures c.as_slice.ensures in
+    not_early_known c.args.lanes before now bytes ended c.read_lines.new.lines.items c.in-Err.stop known c.in-Err.ensures.judged
+
+pub returns-in-Err-clause-counted : goal.returns-in-Err-clause-counted
+returns-in-Err-clause-counted g c =
+    let before = g.S.Source.left c.args.source.now in
+    let now = g.S.Source.left c.read_to_end-taken.new.source in
+    let bytes = c.as_slice.result.now in
+    let ended = c.read_to_end-taken.result.end in
+    let known = known_of before now c.read_to_end-taken.result.bytes bytes ended c.most_bytes.result (g.S.Source.faults c.args.source.now) (g.S.Source.faults c.read_to_end-taken.new.source) c.read_to_end-taken.ensures.taken c.read_to_end-taken.ensures.end c.most_bytes.ensures c.as_slice.ensures in
+    let count : c.len.result ≡ length c.read_lines.new.lines.items = search rules in
+    counts_known c.args.lanes before now bytes ended c.read_lines.new.lines.items c.in-Err.stop c.len.result known c.in-Err.ensures.judged count
+
+pub returns-in-Err-clause-good : goal.returns-in-Err-clause-good
+returns-in-Err-clause-good g c =
+    let before = g.S.Source.left c.args.source.now in
+    let now = g.S.Source.left c.read_to_end-taken.new.source in
+    let bytes = c.as_slice.result.now in
+    let ended = c.read_to_end-taken.result.end in
+    let known = known_of before now c.read_to_end-taken.result.bytes bytes ended c.most_bytes.result (g.S.Source.faults c.args.source.now) (g.S.Source.faults c.read_to_end-taken.new.source) c.read_to_end-taken.ensures.taken c.read_to_end-taken.ensures.end c.most_bytes.ensures c.as_slice.ensures in
+    let count : c.len.result ≡ length c.read_lines.new.lines.items = search rules in
+    good_known c.args.lanes before now bytes ended (length c.read_lines.new.lines.items) c.len.result known c.in-Err.ensures.good count
+
+pub returns-clause-no_stop : goal.returns-clause-no_stop
+returns-clause-no_stop g c =
+    let before = g.S.Source.left c.args.source.now in
+    let now = g.S.Source.left c.read_to_end-taken.new.source in
+    let bytes = c.as_slice.result.now in
+    let ended = c.read_to_end-taken.result.end in
+    let known = known_of before now c.read_to_end-taken.result.bytes bytes ended c.most_bytes.result (g.S.Source.faults c.args.source.now) (g.S.Source.faults c.read_to_end-taken.new.source) c.read_to_end-taken.ensures.taken c.read_to_end-taken.ensures.end c.most_bytes.ensures c.as_slice.ensures in
+    no_stop_known c.args.lanes before now bytes ended c.read_lines.new.lines.items known c.in_default.ensures.judged
