@@ -1,0 +1,86 @@
+-- What the program promises of one run. A clause on the bytes that were read, or on the script that they
+-- are, holds where the source tells what it holds; one on the bytes that were written, where the sink does.
+use Rattle.std.specs.Prelude.{ℕ, ◌≡◌, ◌<◌, ◌≤◌, ◌⊎◌, List, [], ◌∷◌, length, take, map, codes, Option, Some, None, String, string_bytes, ⊤}
+use Rattle.std.specs.declared.alloc.Global.{Global}
+use Rattle.std.specs.Io.KnownBytes.{Appends}
+use Rattle.ov_base.specs.Outside.{Rose}
+use Rattle.ov_base.specs.Loops.{AppendsPart}
+use Rattle.ov_model.specs.declared.line.Script.{Script}
+use Rattle.ov_model.specs.declared.report.Report.{Report}
+use Rattle.ov_model.specs.Legal.{Legal, JournalRuns}
+use Rattle.ov_json.specs.Reading.{Gave, IsScript, HasNoStop, Early, Stop, Event, bad_line, passed}
+use Rattle.ov_json.specs.declared.script.ReadStop.{ReadStop}
+use Rattle.ov_json.specs.declared.script.ReadStop.TheVariants as stop
+use Rattle.ov_json.specs.Summary.{report_text}
+use Rattle.ov_run.specs.declared.ended.Cause.{Cause}
+use Rattle.ov_run.specs.declared.ended.Cause.TheVariants as cause
+use Rattle.ov_run.specs.declared.ended.Ended.{Ended}
+
+-- The words of a run: the one word `trace`.
+abbrev pub IsTrace : List (String Global) → Type 0
+IsTrace words = map string_bytes words ≡ codes "trace" ∷ []
+
+-- How the events that stop a script are answered.
+abbrev pub cause_of : Event → Cause
+cause_of (bad_line n) = cause.BadLine n
+cause_of (passed limit) = cause.Limit limit
+
+abbrev pub cause_of_stop : ReadStop → Cause
+cause_of_stop stop.Read = cause.ReadFault
+cause_of_stop (stop.Bad n) = cause.BadLine n
+cause_of_stop (stop.Limit l) = cause.Limit l
+cause_of_stop stop.Memory = cause.Memory
+
+-- Whether reading stopped the run.
+abbrev pub IsStop : Cause → Type 0
+IsStop cause.Fine = ⊥
+IsStop cause.Usage = ⊥
+IsStop (cause.BadLine n) = ⊤
+IsStop (cause.Limit l) = ⊤
+IsStop cause.ReadFault = ⊤
+IsStop cause.WriteFault = ⊥
+IsStop cause.Memory = ⊥
+
+-- The script of the bytes that were read, whose report this is.
+pub record Read (taken : List ℕ) (report : Report) : Type 0 where
+  pub no_stop : HasNoStop taken 1
+  pub script : Script
+  pub is_script : IsScript taken 1 script
+  pub legal : Legal script report
+
+-- A report: the journal is a run with its notes, there is one lane, and where the source tells what it
+-- holds, it is at its end and the report is legal for the script of what it gave.
+pub record Reported (before now : Option (List ℕ)) (report : Report) : Type 0 where
+  pub runs : JournalRuns report
+  pub one_lane : length report.lanes ≡ 1
+  pub read : (taken : List ℕ) → Gave before now taken → (now ≡ Some []) × Read taken report
+
+-- Where a report's text was written whole, or a part of it.
+pub record Wrote (before now : Option (List ℕ)) (report : Option Report) : Type 0 where
+  pub it : Report
+  pub is : report ≡ Some it
+  pub whole : Appends before now (report_text it)
+
+pub record WrotePart (before now : Option (List ℕ)) (report : Option Report) : Type 0 where
+  pub it : Report
+  pub is : report ≡ Some it
+  pub part : AppendsPart before now (report_text it)
+
+-- Where a stop came from: the bytes that were read show it while the source may go on, or the source is
+-- at its end and all its bytes have it.
+abbrev pub ComesFrom : Option (List ℕ) → Option (List ℕ) → Event → Type 0
+ComesFrom before now event = (taken : List ℕ) → Gave before now taken → Early taken 1 event ⊎ ((now ≡ Some []) × Stop taken 1 event)
+
+-- What a run that read its script whole ended with: all of the report's text was written, or a part of it
+-- where a write failed, or nothing for want of memory.
+abbrev pub EndsBy : Option (List ℕ) → Option (List ℕ) → ℕ → ℕ → Option Report → Cause → Type 0
+EndsBy old new before now report cause.Fine = Wrote old new report
+EndsBy old new before now report cause.WriteFault = Rose before now × WrotePart old new report
+EndsBy old new before now report cause.Memory = new ≡ old
+EndsBy old new before now report cause.Usage = ⊥
+EndsBy old new before now report (cause.BadLine n) = ⊥
+EndsBy old new before now report (cause.Limit l) = ⊥
+EndsBy old new before now report cause.ReadFault = ⊥
+
+abbrev pub Ran : Option (List ℕ) → Option (List ℕ) → ℕ → ℕ → Ended → Type 0
+Ran old new before now ended = EndsBy old new before now ended.report ended.cause

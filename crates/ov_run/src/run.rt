@@ -1,0 +1,119 @@
+//! The top call: words, script, run, report.
+
+ghost use Rattle.std.specs.Prelude.{◌≡◌, ◌≢◌, ◌<◌, ◌↔◌, ℕ, List, None, length, IsTrue, IfSome};
+ghost use Rattle.std.specs.List.{AllByRecursion};
+ghost use Rattle.ov_base.specs.Outside.{Rose};
+ghost use Rattle.ov_model.specs.Legal.{Legal, JournalRuns};
+ghost use Rattle.ov_json.specs.Reading as reading;
+ghost use Rattle.ov_run.specs.declared.ended.Cause.TheVariants as cause;
+ghost use Rattle.ov_run.specs.Clauses as spec;
+
+use crate::ended::{Cause, Ended};
+use crate::session::run_script;
+use crate::text::text_of;
+use ov_base::{Sink, Source, write_all};
+use ov_json::{ReadStop, Reading, read_script};
+use ov_model::Script;
+use std::alloc::Global;
+
+/// Whether the words after the program's name are those of a run.
+fn is_trace(words: &[String]) -> bool
+    ensures { IsTrue result ↔ spec.IsTrace words.now }
+{
+    match words {
+        [word] => word.as_str() == "trace",
+        _ => false,
+    }
+}
+
+/// The cause of a stop.
+fn cause_of(stop: ReadStop) -> Cause
+    ensures { result ≡ spec.cause_of_stop stop }
+{
+    match stop {
+        ReadStop::Read => Cause::ReadFault,
+        ReadStop::Bad(line) => Cause::BadLine(line),
+        ReadStop::Limit(limit) => Cause::Limit(limit),
+        ReadStop::Memory => Cause::Memory,
+    }
+}
+
+/// Runs a script that was read whole and writes its report.
+fn trace<K: Sink>(alloc: Global, script: Script, read_lines: u64, sink: &mut K) -> Ended
+    ensures lines { result.read_lines ≡ read_lines }
+    ensures cause { spec.Ran (K.written sink.old) (K.written sink.new) (K.faults sink.old) (K.faults sink.new) result }
+    ensures runs { IfSome result.report JournalRuns }
+    ensures one_lane { IfSome result.report (λ report. length report.lanes ≡ 1) }
+    ensures legal { IfSome result.report (λ report. AllByRecursion (λ line. line.lane < 1) script.lines → Legal script report) }
+{
+    let report = match run_script(alloc, script) {
+        Ok(report) => report,
+        Err(_) => {
+            return Ended {
+                cause: Cause::Memory,
+                read_lines,
+                report: None,
+            };
+        }
+    };
+    let cause = match text_of(alloc, &report) {
+        Err(_) => Cause::Memory,
+        Ok(text) => match write_all(sink, text.as_slice()) {
+            Ok(()) => Cause::Fine,
+            Err(_) => Cause::WriteFault,
+        },
+    };
+    Ended {
+        cause,
+        read_lines,
+        report: Some(report),
+    }
+}
+
+/// One run of the program: reads the words, then the whole script, runs it, and writes the report.
+/// Nothing is written before the script was read to its end and found good.
+///
+/// `words` are the words after the program's name. The answer's cause is `Usage` exactly where they
+/// aren't the one word `trace`.
+pub fn run_serial<S: Source, K: Sink>(
+    alloc: Global,
+    words: &[String],
+    source: &mut S,
+    sink: &mut K,
+) -> Ended
+    // Usage: exactly where the words aren't a plan, and nothing is read or written.
+    ensures usage { (result.cause ≡ cause.Usage) ↔ ¬ (spec.IsTrace words.now) }
+    ensures unread { result.cause ≡ cause.Usage → (source.new ≡ source.old) × (sink.new ≡ sink.old) }
+
+    // Stops: a bad line or a limit comes from the bytes, a read fault from the source, and then nothing
+    // is run or written.
+    ensures stops { (event : reading.Event) → result.cause ≡ spec.cause_of event → spec.ComesFrom (S.left source.old) (S.left source.new) event }
+    ensures read_fault { result.cause ≡ cause.ReadFault → Rose (S.faults source.old) (S.faults source.new) }
+    ensures unrun { spec.IsStop result.cause → (result.report ≡ None) × (sink.new ≡ sink.old) }
+
+    // The report, and what is written of its text.
+    ensures outcome { IfSome result.report (spec.Reported (S.left source.old) (S.left source.new)) }
+    ensures fine { result.cause ≡ cause.Fine → spec.Wrote (K.written sink.old) (K.written sink.new) result.report }
+    ensures write_fault { result.cause ≡ cause.WriteFault → Rose (K.faults sink.old) (K.faults sink.new) × spec.WrotePart (K.written sink.old) (K.written sink.new) result.report }
+    ensures memory { result.cause ≡ cause.Memory → K.written sink.new ≡ K.written sink.old }
+
+    // Lines counted: the whole lines that were taken and found good.
+    ensures read_lines { (taken : List ℕ) → reading.Gave (S.left source.old) (S.left source.new) taken → result.cause ≢ cause.Usage → reading.AreGood 1 (reading.counted_lines taken) result.read_lines }
+{
+    if !is_trace(words) {
+        return Ended {
+            cause: Cause::Usage,
+            read_lines: 0,
+            report: None,
+        };
+    }
+    let Reading { good, outcome } = read_script(alloc, source, 1);
+    match outcome {
+        Err(stop) => Ended {
+            cause: cause_of(stop),
+            read_lines: good,
+            report: None,
+        },
+        Ok(script) => trace(alloc, script, good, sink),
+    }
+}
