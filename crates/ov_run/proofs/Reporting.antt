@@ -81,8 +81,8 @@ pub reported : (before now : Option (List ℕ)) (report : Option Report) (script
     → ((taken : List ℕ) → Gave before now taken → (now ≡ Some []) × IsScript taken 1 script) → ((taken : List ℕ) → Gave before now taken → HasNoStop taken 1) → IfSome report (Reported before now)
 reported before now None script runs one legal read no_stop = tt
 reported before now (Some r) script runs one legal read no_stop = record {
-    runs = runs;
-    one_lane = one;
-    read = λ taken gave. let its : (now ≡ Some []) × IsScript taken 1 script = read taken gave in
-      (its.0, record { no_stop = no_stop taken gave; script = script; is_script = its.1; legal = legal (read_within (whole_lines taken) script.lines its.1.lines) })
+  runs = runs;
+  one_lane = one;
+  read = λ taken gave. let its : (now ≡ Some []) × IsScript taken 1 script = read taken gave in
+      (its.0, record { no_stop = no_stop taken gave; script = script; is_script = its.1; legal = legal (read_within (whole_lines taken) script.lines its.1.lines) });
 }

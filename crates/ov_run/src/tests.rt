@@ -1,0 +1,105 @@
+//! Whole runs over sources and sinks in memory, in pieces of 16 bytes.
+
+use crate::run::run_serial;
+use ov_base::{ListOf, Memory, MemorySink, MemorySource, Octets};
+use std::alloc::Global;
+use std::test::Fail;
+
+const PEER5: &str =
+    r#"{"at":0,"do":"peer-new","lane":0,"peer":{"id":5,"remote-ipv4":"192.0.2.1","remote-port":1194,"vpn-ipv4":"10.8.0.5"}}
+"#;
+
+/// The calls of these numbers, from 0.
+fn calls(alloc: Global, numbers: &[u64]) -> Result<ListOf<u64>, Memory> {
+    let numbers = Vec::from_slice(alloc, numbers)?;
+    Ok(ListOf::of_vec(numbers))
+}
+
+/// The status and the written text of a run on `text`, with one word and where these calls fail.
+fn run(
+    alloc: Global,
+    word: &str,
+    text: &[u8],
+    reads: &[u64],
+    writes: &[u64],
+) -> Result<(u8, Octets), Memory> {
+    let mut words = Vec::new(alloc);
+    words.push(String::from_str(alloc, word)?)?;
+    let bytes = Octets::of(alloc, text)?;
+    let mut source = MemorySource::new(bytes, 16, calls(alloc, reads)?);
+    let mut sink = MemorySink::new(alloc, 16, calls(alloc, writes)?);
+    let ended = run_serial(alloc, words.as_slice(), &mut source, &mut sink);
+    let written = Octets::of(alloc, sink.written())?;
+    Ok((ended.status(), written))
+}
+
+#[test]
+fn an_empty_script_has_a_summary_alone(rt: HostRuntime) -> Result<(), Fail> {
+    let (status, written) = run(rt.alloc(), "trace", b"", &[], &[])?;
+    assert_eq!(rt; status, 0);
+    let summary =
+        br#"{"summary":{"accepted":0,"answers":0,"bad-tag":0,"delivered":0,"journal":0,"keys":0,"keys-differ":true,"notes":0,"peers":0,"refused":0,"released":0,"sealed":0}}
+"#;
+    assert_eq!(rt; written.as_slice(), summary.as_slice());
+    Ok(())
+}
+
+#[test]
+fn a_taken_vpn_address_is_refused(rt: HostRuntime) -> Result<(), Fail> {
+    let script =
+        br#"{"at":0,"do":"peer-new","lane":0,"peer":{"id":5,"remote-ipv4":"192.0.2.1","remote-port":1194,"vpn-ipv4":"10.8.0.5"}}
+{"at":0,"do":"peer-new","lane":0,"peer":{"id":6,"remote-ipv4":"192.0.2.2","remote-port":1194,"vpn-ipv4":"10.8.0.5"}}
+{"at":0,"do":"peer-get","lane":0,"peer":{"id":6}}
+"#;
+    let (status, written) = run(rt.alloc(), "trace", script, &[], &[])?;
+    assert_eq!(rt; status, 0);
+    let report = br#"{"at":0,"call":"peer-new","journal":0,"lane":0,"line":0,"reply":{"serial":0}}
+{"at":0,"call":"peer-new","journal":1,"lane":0,"line":1,"reply":{"error":17}}
+{"at":0,"call":"peer-get","journal":2,"lane":0,"line":2,"reply":{"error":2}}
+{"answer":{"serial":0},"lane":0,"line":0}
+{"answer":{"error":17},"lane":0,"line":1}
+{"answer":{"error":2},"lane":0,"line":2}
+{"summary":{"accepted":0,"answers":3,"bad-tag":0,"delivered":0,"journal":3,"keys":0,"keys-differ":true,"notes":0,"peers":1,"refused":0,"released":0,"sealed":0}}
+"#;
+    assert_eq!(rt; written.as_slice(), report.as_slice());
+    Ok(())
+}
+
+#[test]
+fn a_bad_line_or_another_word_runs_nothing(rt: HostRuntime) -> Result<(), Fail> {
+    for (word, text, wanted) in [
+        ("trace", b"{\n".as_slice(), 2),
+        ("trace", b"\n".as_slice(), 2),
+        ("steps", PEER5.as_bytes(), 1),
+        ("", PEER5.as_bytes(), 1),
+    ] {
+        let (status, written) = run(rt.alloc(), word, text, &[], &[])?;
+        assert_eq!(rt; status, wanted);
+        assert!(rt; written.is_empty());
+    }
+    Ok(())
+}
+
+#[test]
+fn a_fault_at_any_call_is_told_and_changes_no_report(rt: HostRuntime) -> Result<(), Fail> {
+    let (status, whole) = run(rt.alloc(), "trace", PEER5.as_bytes(), &[], &[])?;
+    assert_eq!(rt; status, 0);
+    for number in 0..24_u64 {
+        let (status, written) = run(rt.alloc(), "trace", PEER5.as_bytes(), &[number], &[])?;
+        if status == 4 {
+            assert!(rt; written.is_empty());
+        } else {
+            assert_eq!(rt; status, 0);
+            assert!(rt; written == whole);
+        }
+        let (status, written) = run(rt.alloc(), "trace", PEER5.as_bytes(), &[], &[number])?;
+        assert!(rt; status == 5 || status == 0);
+        assert_eq!(rt; status == 0, written.len() == whole.len());
+        assert!(rt; whole.as_slice().starts_with(written.as_slice()));
+    }
+    let (status, _) = run(rt.alloc(), "trace", PEER5.as_bytes(), &[0], &[])?;
+    assert_eq!(rt; status, 4);
+    let (status, _) = run(rt.alloc(), "trace", PEER5.as_bytes(), &[], &[0])?;
+    assert_eq!(rt; status, 5);
+    Ok(())
+}
