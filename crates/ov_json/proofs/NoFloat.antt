@@ -1,5 +1,5 @@
 -- The texts of a report have no fractions, so the printer's text of each is exact.
-use Rattle.std.proofs.Common.{ℕ, ◌≡◌, List, [], ◌∷◌, refl, map, true, false, Bool, ◌||◌, arith, rules, Ordering, Less, Equal, Greater, true≢false}
+use Rattle.std.proofs.Common.{ℕ, ◌≡◌, List, [], ◌∷◌, refl, map, true, false, Bool, ◌||◌, rules, Ordering, Less, Equal, Greater, true≢false}
 use Rattle.std.specs.Prelude.{Option, Some, None, codes}
 use Rattle.std.specs.Ordering.{match_ordering, nat_cmp}
 use Rattle.std.specs.Cmp.Lexicographic.{slice_cmp}
@@ -18,7 +18,7 @@ use Rattle.ov_model.specs.declared.answer.Answer.TheVariants as answer
 use Rattle.ov_model.specs.declared.note.Note.{Note}
 use Rattle.ov_model.specs.declared.note.NoteBody.{NoteBody}
 use Rattle.ov_model.specs.declared.note.NoteBody.TheVariants as body
-use Rattle.ov_json.specs.Print.{num, nums, put_num, put_text, call_name, put_remote_addr, put_vpn4, put_vpn6, put_counts, view_members, reply_data, answer_data, entry_data, answered_data, note_members, note_data}
+use Rattle.ov_json.specs.Print.{num, put_num, put_text, call_name, put_remote_addr, put_vpn4, put_vpn6, put_counts, view_members, reply_data, answer_data, entry_data, answered_data, note_members, note_data}
 
 or_left : (a b : Bool) → (a || b) ≡ false → a ≡ false
 or_left true b h = h

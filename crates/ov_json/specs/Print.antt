@@ -1,6 +1,6 @@
 -- The lines of a report: each a compact JSON object (RFC 8259) whose names stand in ascending byte
 -- order at each level, followed by a line end. `put` sets a name, and keeps the order.
-use Rattle.std.specs.Prelude.{ℕ, ◌+◌, List, [], ◌∷◌, ◌++◌, Option, Some, None, map, codes}
+use Rattle.std.specs.Prelude.{ℕ, List, [], ◌∷◌, ◌++◌, Option, Some, None, map, codes}
 use Rattle.std.specs.Net.Text.{ipv4_text}
 use Rattle.hex.specs.Hex.{encode_lower}
 use Rattle.serde_json.specs.Data.{Data, string, number, unsigned, array, object, Members, no_members, put}

@@ -1,6 +1,5 @@
 -- The summary line of a report, and the report's whole text.
-use Rattle.std.specs.Prelude.{ℕ, ◌+◌, List, [], ◌∷◌, ◌++◌, Bool, true, false, map, length, codes, not, count_by, sum_by}
-use Rattle.std.specs.List.{concat}
+use Rattle.std.specs.Prelude.{ℕ, ◌+◌, List, [], ◌∷◌, ◌++◌, Bool, true, false, length, codes, not, count_by, sum_by}
 use Rattle.serde_json.specs.Data.{Data, boolean, object, no_members, put}
 use Rattle.ov_model.specs.declared.act.Act.TheVariants as act
 use Rattle.ov_model.specs.declared.command.Command.TheVariants as command
@@ -9,7 +8,6 @@ use Rattle.ov_model.specs.declared.act.Act.{Act}
 use Rattle.ov_model.specs.declared.reply.Reply.{Reply}
 use Rattle.ov_model.specs.declared.reply.Reply.TheVariants as reply
 use Rattle.ov_model.specs.declared.answer.Answer.{Answer}
-use Rattle.ov_model.specs.declared.answer.Answer.TheVariants as answer
 use Rattle.ov_model.specs.declared.replay.Verdict.{Verdict}
 use Rattle.ov_model.specs.declared.replay.Verdict.TheVariants as verdict
 use Rattle.ov_model.specs.declared.replay.ReplayEntry.{ReplayEntry}

@@ -1,14 +1,12 @@
 -- The lane goes on: one more line was run and answered.
-use Rattle.std.proofs.Common.{ℕ, ◌≡◌, ◌+◌, ◌<◌, ◌≤◌, List, [], ◌∷◌, ◌++◌, length, refl, sym, ◌∙◌, ap, subst, arith}
+use Rattle.std.proofs.Common.{◌≡◌, ◌<◌, List, [], ◌∷◌, ◌++◌, length, refl, ◌∙◌, ap, arith}
 use Rattle.std.specs.Prelude.{Some, None, slice_get}
 use Rattle.std.specs.List.{AllByRecursion}
-use Rattle.ov_model.specs.declared.place.Place.{Place}
 use Rattle.ov_model.specs.declared.line.Line.{Line}
 use Rattle.ov_model.specs.declared.answer.Answer.{Answer}
 use Rattle.ov_model.specs.Tables.{empty_table}
-use Rattle.ov_model.specs.Runs.{table_after, last_table}
-use Rattle.ov_model.specs.Events.{Step, steps_after, steps_of}
-use Rattle.ov_model.specs.Path.{Path}
+use Rattle.ov_model.specs.Runs.{last_table}
+use Rattle.ov_model.specs.Events.{Step, steps_of}
 use Rattle.ov_model.specs.Legal.{LaneMeets}
 use Rattle.ov_model.proofs.Going.{steps_after-append, table_after-append}
 use Rattle.ov_model.proofs.Lanes.{AtPlace, all_append, all_weaker, own_steps, line_done}

@@ -1,6 +1,6 @@
 -- The report of one lane is legal for its script.
-use Rattle.std.proofs.Common.{ℕ, ◌≡◌, ◌+◌, ◌-◌, ◌<◌, ◌≤◌, ◌==◌, Bool, true, List, [], ◌∷◌, ◌++◌, length, refl, sym, ◌∙◌, ap, subst, zero, suc, take, arith}
-use Rattle.std.specs.Prelude.{filter, Option, Some, None, IfSome, slice_get}
+use Rattle.std.proofs.Common.{ℕ, ◌≡◌, ◌-◌, ◌<◌, ◌==◌, true, List, [], ◌∷◌, length, refl, sym, ◌∙◌, subst, zero, suc, arith}
+use Rattle.std.specs.Prelude.{Option, Some, None, IfSome, slice_get}
 use Rattle.std.specs.List.{AllByRecursion}
 use Rattle.std.proofs.lemmas.List.{take_all}
 use Rattle.std.proofs.lemmas.Bool.Decides.{nat_tests}
@@ -9,12 +9,10 @@ use Rattle.ov_model.specs.declared.line.Script.{Script}
 use Rattle.ov_model.specs.declared.answer.Answer.{Answer}
 use Rattle.ov_model.specs.declared.report.LaneLog.{LaneLog}
 use Rattle.ov_model.specs.declared.report.Report.{Report}
-use Rattle.ov_model.specs.Runs.{notes_of}
 use Rattle.ov_model.specs.Events.{steps_of}
-use Rattle.ov_model.specs.Legal.{Legal, LanesMatch, LaneMatches, LaneMeets, LinesFollowPath, JournalRuns, lane_lines}
+use Rattle.ov_model.specs.Legal.{Legal, LaneMatches, LaneMeets, JournalRuns, lane_lines}
 use Rattle.ov_model.proofs.Lanes.{filter_all, all_weaker}
 use Rattle.ov_table.specs.Recorded.{Recorded, IsTold}
-use Rattle.ov_json.specs.Grammar.{Says}
 use Rattle.ov_json.specs.Reading.{AreLines, Gave, IsScript, HasNoStop, whole_lines}
 use Rattle.ov_run.specs.Clauses.{Reported}
 use Rattle.ov_run.specs.Ran.{Answered, no_shards}

@@ -1,11 +1,10 @@
 -- The table goes on by steps: none, one, and some after others; and by the releases of removed peers.
-use Rattle.std.proofs.Common.{ℕ, ◌≡◌, ◌+◌, ◌<◌, List, [], ◌∷◌, ◌++◌, length, refl, sym, ◌∙◌, ap, subst, append-nil, append_assoc, add-one, take, drop, get_or, max, arith}
+use Rattle.std.proofs.Common.{ℕ, ◌≡◌, ◌+◌, ◌<◌, List, [], ◌∷◌, ◌++◌, length, refl, sym, ◌∙◌, subst, append-nil, append_assoc, add-one, take, drop, get_or, max}
 use Rattle.std.specs.Prelude.{map, Ok, Err}
 use Rattle.std.specs.List.{AllByRecursion}
 use Rattle.std.proofs.lemmas.List.{map-append, take_more}
 use Rattle.std.proofs.Math.Seq.{drop-cons}
 use Rattle.ov_model.specs.declared.place.Place.{Place}
-use Rattle.ov_model.specs.declared.act.Act.{Act}
 use Rattle.ov_model.specs.declared.act.Act.TheVariants as act
 use Rattle.ov_model.specs.declared.act.Call.{Call}
 use Rattle.ov_model.specs.declared.command.Command.{Command}
@@ -21,9 +20,8 @@ use Rattle.ov_model.specs.Checked.{checked}
 use Rattle.ov_model.specs.Tables.{Peer}
 use Rattle.ov_model.specs.declared.reply.Reply.{Reply}
 use Rattle.ov_model.specs.Step.{step, command_step}
-use Rattle.ov_model.specs.Runs.{table_after}
-use Rattle.ov_model.specs.Events.{Step, steps_after, step_of, release_of, releases}
-use Rattle.ov_model.specs.Path.{SomeOwed, removed, Refused, Commanded}
+use Rattle.ov_model.specs.Events.{Step, step_of, release_of, releases}
+use Rattle.ov_model.specs.Path.{removed, Refused, Commanded}
 use Rattle.ov_model.proofs.Going.{steps_after-append, table_after-append}
 use Rattle.ov_model.proofs.Removing.{serials, some_all, LetsGo, lets_go, Joins, command_joins}
 use Rattle.ov_table.specs.Recorded.{Recorded, stepped, entry_of}

@@ -1,5 +1,5 @@
 -- The text of more entries, answers and notes.
-use Rattle.std.proofs.Common.{ℕ, ◌≡◌, ◌+◌, ◌<◌, List, [], ◌∷◌, ◌++◌, length, refl, sym, ◌∙◌, ap, append_assoc, append-nil, add-zero, take, get_or, arith, min, false}
+use Rattle.std.proofs.Common.{ℕ, ◌≡◌, ◌+◌, ◌<◌, List, [], ◌∷◌, ◌++◌, length, refl, sym, ◌∙◌, ap, append_assoc, append-nil, add-zero, take, get_or, arith, false}
 use Rattle.std.proofs.lemmas.List.{take_more, length-take}
 use Rattle.ov_model.specs.declared.entry.Entry.{Entry}
 use Rattle.ov_model.specs.declared.answer.Answer.{Answer}

@@ -1,5 +1,5 @@
 -- What running lines on the peer table did.
-use Rattle.std.specs.Prelude.{ℕ, ◌+◌, ◌<◌, replicate, ◌≡◌, List, [], ◌∷◌, ◌++◌, None}
+use Rattle.std.specs.Prelude.{ℕ, ◌<◌, replicate, ◌≡◌, List, [], ◌∷◌, ◌++◌, None}
 use Rattle.std.specs.List.{AllByRecursion}
 use Rattle.ov_model.specs.declared.place.Place.{Place}
 use Rattle.ov_model.specs.declared.command.Command.{Command}

@@ -1,5 +1,5 @@
 -- One more line was run and answered.
-use Rattle.std.proofs.Common.{◌≡◌, ◌+◌, ◌++◌, ◌∷◌, [], length, length-append, refl}
+use Rattle.std.proofs.Common.{◌∷◌, [], length-append, refl}
 use Rattle.std.proofs.lemmas.Option.{slice_get-get_or}
 use Rattle.ov_run.proofs.Answering.{line_answered}
 use Rattle.ov_run.proofs.lines.run_lines.Goals as goal

@@ -1,5 +1,5 @@
 -- One line more.
-use Rattle.std.proofs.Common.{ℕ, ◌+◌, ◌∙◌, ap}
+use Rattle.std.proofs.Common.{◌∙◌, ap}
 use Rattle.ov_json.specs.Print.{note_text}
 use Rattle.ov_run.proofs.Texts.{one_note_more}
 use Rattle.ov_run.proofs.text.add_notes.Goals as goal
