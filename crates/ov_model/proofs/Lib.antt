@@ -4,3 +4,4 @@ pub mod Lanes
 pub mod Removing
 pub mod ReplayLemmas
 pub mod Noted
+pub mod Freed

@@ -144,7 +144,7 @@ apart_push (q ∷ qs) p below a = (
   apart_push qs p below.1 a.1,
 )
 
-apart_sym : (x y : ℕ) → (x == y) ≡ false → (y == x) ≡ false
+pub apart_sym : (x y : ℕ) → (x == y) ≡ false → (y == x) ≡ false
 apart_sym x y other = grind (arith, nat_tests)
 
 -- The others have other serials than the one that is taken out.
@@ -176,7 +176,7 @@ never_again x t (e ∷ es) follows made not_live =
       ]
     ]
 
-removed_once : (t : Table) (es : List Entry) → Follows t es → AllByRecursion (λ p. p.serial < t.made) t.live → Apart t.live → IsDistinct nat_eq (removed_in es)
+pub removed_once : (t : Table) (es : List Entry) → Follows t es → AllByRecursion (λ p. p.serial < t.made) t.live → Apart t.live → IsDistinct nat_eq (removed_in es)
 unfolding IsDistinct
 removed_once t [] follows below apart = tt
 removed_once t (e ∷ es) follows below apart =

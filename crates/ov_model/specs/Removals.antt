@@ -1,5 +1,5 @@
 -- What a finished run tells of the peers that it removed: their notes, and that none is left dying.
-use Rattle.std.specs.Prelude.{if◌then◌else◌, ℕ, ◌≡◌, List, [], ◌∷◌, ◌++◌, Bool, true, false, Option, Some, None, ◌==◌, nat_eq, filter, map, slice_get}
+use Rattle.std.specs.Prelude.{ℕ, ◌≡◌, ◌<◌, List, [], ◌∷◌, ◌++◌, Bool, true, false, Option, Some, None, if◌then◌else◌, ◌==◌, nat_eq, length, filter, map, slice_get}
 use Rattle.std.specs.Option.{option_or}
 use Rattle.std.specs.List.{IsDistinct}
 use Rattle.ov_model.specs.declared.ident.PeerId.{PeerId}
@@ -61,7 +61,23 @@ pub record RemovalsNoted (journal : List Entry) (notes : List Note) : Type 0 whe
   pub each : (n : ℕ) (e : Entry) → slice_get journal n ≡ Some e → map (λ b. Some b) (peer_dels notes n) ≡ map (λ serial. del_note (id_in journal serial) (reason_of e.call.act)) (removed e.reply)
   pub once : IsDistinct nat_eq (removed_in journal)
 
--- Each removed peer was let go: the last table of the run has no dying peer. As only a dying peer is
--- let go, and then it leaves the dying list, each removed peer has exactly one Released entry.
+-- Each removed peer was let go: the last table of the run has no dying peer.
 abbrev pub AllReleased : List Entry → Type 0
 AllReleased journal = (last_table journal).dying ≡ []
+
+-- The serials of the peers that a journal let go, in order.
+abbrev pub released_by : Act → List ℕ
+released_by (act.Released serial) = serial ∷ []
+released_by _ = []
+
+abbrev pub released_in : List Entry → List ℕ
+released_in [] = []
+released_in (e ∷ es) = released_by e.call.act ++ released_in es
+
+-- How often a serial stands in a list.
+abbrev pub times : ℕ → List ℕ → ℕ
+times serial serials = length (filter (λ s. s == serial) serials)
+
+-- Each removed peer has exactly one entry that lets it go.
+abbrev pub EachReleasedOnce : List Entry → Type 0
+EachReleasedOnce journal = (serial : ℕ) → 0 < times serial (removed_in journal) → times serial (released_in journal) ≡ 1
