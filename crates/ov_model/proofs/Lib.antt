@@ -3,3 +3,5 @@ pub mod Going
 pub mod Lanes
 pub mod Removing
 pub mod ReplayLemmas
+pub mod Noted
+pub mod Freed

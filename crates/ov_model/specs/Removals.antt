@@ -1,0 +1,83 @@
+-- What a finished run tells of the peers that it removed: their notes, and that none is left dying.
+use Rattle.std.specs.Prelude.{ℕ, ◌≡◌, ◌<◌, List, [], ◌∷◌, ◌++◌, Bool, true, false, Option, Some, None, if◌then◌else◌, ◌==◌, nat_eq, length, filter, map, slice_get}
+use Rattle.std.specs.Option.{option_or}
+use Rattle.std.specs.List.{IsDistinct}
+use Rattle.ov_model.specs.declared.ident.PeerId.{PeerId}
+use Rattle.ov_model.specs.declared.command.Reason.{Reason}
+use Rattle.ov_model.specs.declared.command.Command.TheVariants as command
+use Rattle.ov_model.specs.declared.act.Act.{Act}
+use Rattle.ov_model.specs.declared.act.Act.TheVariants as act
+use Rattle.ov_model.specs.declared.entry.Entry.{Entry}
+use Rattle.ov_model.specs.declared.note.Note.{Note}
+use Rattle.ov_model.specs.declared.note.NoteBody.{NoteBody}
+use Rattle.ov_model.specs.declared.note.NoteBody.TheVariants as note
+use Rattle.ov_model.specs.declared.reply.Reply.{Reply}
+use Rattle.ov_model.specs.declared.reply.Reply.TheVariants as reply
+use Rattle.ov_model.specs.Runs.{last_table}
+use Rattle.ov_model.specs.Path.{removed}
+
+-- The id that an act gives to the peer that it makes.
+abbrev pub id_given : Act → Option PeerId
+id_given (act.Do (command.PeerNew a)) = Some a.id
+id_given _ = None
+
+-- The id of a serial, where this reply made it.
+abbrev pub id_by : Reply → Act → ℕ → Option PeerId
+id_by (reply.Made made) a serial = if made == serial then id_given a else None
+id_by _ a serial = None
+
+-- The id of the peer with a serial: that of the first entry that made it.
+abbrev pub id_in : List Entry → ℕ → Option PeerId
+id_in [] serial = None
+id_in (e ∷ es) serial = option_or (id_by e.reply e.call.act serial) (id_in es serial)
+
+-- The reason with which an act removes: peer-del's own.
+abbrev pub reason_of : Act → Option Reason
+reason_of (act.Do (command.Remove id reason)) = Some reason
+reason_of _ = None
+
+-- The serials of the peers that a journal removed, in order.
+abbrev pub removed_in : List Entry → List ℕ
+removed_in [] = []
+removed_in (e ∷ es) = removed e.reply ++ removed_in es
+
+abbrev pub is_peer_del : NoteBody → Bool
+is_peer_del (note.PeerDel id reason) = true
+is_peer_del _ = false
+
+-- The peer-del notes with an entry's number, in order.
+abbrev pub peer_dels : List Note → ℕ → List NoteBody
+peer_dels notes n = filter is_peer_del (map (λ x. x.body) (filter (λ x. x.entry == n) notes))
+
+-- The note that tells of a removed peer.
+abbrev pub del_note : Option PeerId → Option Reason → Option NoteBody
+del_note (Some id) (Some reason) = Some (note.PeerDel id reason)
+del_note _ _ = None
+
+-- Each entry's peer-del notes are those of the peers that its reply says were removed, in the reply's
+-- order, with their ids and the act's reason; an entry that removes none has none. No serial is
+-- removed twice.
+pub record RemovalsNoted (journal : List Entry) (notes : List Note) : Type 0 where
+  pub each : (n : ℕ) (e : Entry) → slice_get journal n ≡ Some e → map (λ b. Some b) (peer_dels notes n) ≡ map (λ serial. del_note (id_in journal serial) (reason_of e.call.act)) (removed e.reply)
+  pub once : IsDistinct nat_eq (removed_in journal)
+
+-- Each removed peer was let go: the last table of the run has no dying peer.
+abbrev pub AllReleased : List Entry → Type 0
+AllReleased journal = (last_table journal).dying ≡ []
+
+-- The serials of the peers that a journal let go, in order.
+abbrev pub released_by : Act → List ℕ
+released_by (act.Released serial) = serial ∷ []
+released_by _ = []
+
+abbrev pub released_in : List Entry → List ℕ
+released_in [] = []
+released_in (e ∷ es) = released_by e.call.act ++ released_in es
+
+-- How often a serial stands in a list.
+abbrev pub times : ℕ → List ℕ → ℕ
+times serial serials = length (filter (λ s. s == serial) serials)
+
+-- Each removed peer has exactly one entry that lets it go.
+abbrev pub EachReleasedOnce : List Entry → Type 0
+EachReleasedOnce journal = (serial : ℕ) → 0 < times serial (removed_in journal) → times serial (released_in journal) ≡ 1
