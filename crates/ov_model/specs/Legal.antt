@@ -11,6 +11,7 @@ use Rattle.ov_model.specs.declared.report.Report.{Report}
 use Rattle.ov_model.specs.Runs.{IsRun, notes_of}
 use Rattle.ov_model.specs.Events.{Step, Judgement, of, shown_in, steps_of}
 use Rattle.ov_model.specs.Path.{Path, Material}
+use Rattle.ov_model.specs.Removals.{RemovalsNoted, AllReleased}
 
 -- The script's lines of one lane, in order.
 abbrev pub lane_lines : List Line → ℕ → List Line
@@ -63,8 +64,14 @@ pub record LinesFollowPath (material : ℕ → Option Material) (via : Addr → 
   pub within : AllByRecursion (λ s. s.entry.place.lane < length report.lanes) (steps_of report.journal)
   pub each : (lane : ℕ) (log : LaneLog) → slice_get report.lanes lane ≡ Some log → LaneMeets material via (steps_of report.journal) report.shards lane log.lines log.answers [] []
 
+-- Each removal has its notes, in order, with its reason; no peer is removed twice.
+abbrev pub RemovalsAreNoted : Report → Type 0
+RemovalsAreNoted report = RemovalsNoted report.journal report.notes
+
 -- A script's report. No key is made yet, and without routes the next hop of an address is itself.
 pub record Legal (script : Script) (report : Report) : Type 0 where
   pub lanes : LanesMatch script report
   pub journal : JournalRuns report
   pub lines : LinesFollowPath (λ _. None) (λ a. a) report
+  pub removals : RemovalsAreNoted report
+  pub released : AllReleased report.journal

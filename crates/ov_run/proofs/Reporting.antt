@@ -10,7 +10,10 @@ use Rattle.ov_model.specs.declared.answer.Answer.{Answer}
 use Rattle.ov_model.specs.declared.report.LaneLog.{LaneLog}
 use Rattle.ov_model.specs.declared.report.Report.{Report}
 use Rattle.ov_model.specs.Events.{steps_of}
+use Rattle.ov_model.specs.Runs.{last_table}
 use Rattle.ov_model.specs.Legal.{Legal, LaneMatches, LaneMeets, JournalRuns, lane_lines}
+use Rattle.ov_model.specs.Removals.{RemovalsNoted, AllReleased}
+use Rattle.ov_model.proofs.Noted.{removals_noted}
 use Rattle.ov_model.proofs.Lanes.{filter_all, all_weaker}
 use Rattle.ov_table.specs.Recorded.{Recorded, IsTold}
 use Rattle.ov_json.specs.Reading.{AreLines, Gave, IsScript, HasNoStop, whole_lines}
@@ -40,6 +43,13 @@ log_matches lines answers within all = record {
 P_of : {A : Type 0} (x y : A) (n : ℕ) → slice_get (x ∷ []) n ≡ Some y → (n ≡ 0) × (x ≡ y)
 P_of x y zero is = (refl, cc)
 P_of x y (suc n) is = absurd (let e : ◌≡◌ {A = _} None (Some y) = is in cc)
+
+-- The notes of a told table are those of its removals, and a settled one has let all removed peers go.
+pub noted : (t : Recorded) → IsTold t → RemovalsNoted t.journal t.notes
+noted t told = rw told.notes (removals_noted t.journal told.run)
+
+pub let_go : (t : Recorded) → last_table t.journal ≡ t.now → t.now.dying ≡ [] → AllReleased t.journal
+let_go t last settled = rw last settled
 
 pub legal_of : (t : Recorded) (lines : List Line) (answers : List Answer) → IsTold t → Answered t lines answers → length answers ≡ length lines → AllByRecursion (λ line. line.lane < 1) lines → Legal (record { lines = lines }) (report_of t lines answers)
 legal_of t lines answers told answered all within = record {
@@ -75,10 +85,10 @@ legal_as t lines answers report lanes journal notes shards told answered all wit
     subst P same (legal_of t lines answers told answered all within)
 
 -- What is known of a report, as one fact: it is legal where the bytes that were read are its script's.
-pub reported : (before now : Option (List ℕ)) (report : Option Report) (script : Script) → IfSome report JournalRuns → IfSome report (λ r. length r.lanes ≡ 1) → IfSome report (λ r. AllByRecursion (λ line. line.lane < 1) script.lines → Legal script r)
+pub reported : (before now : Option (List ℕ)) (report : Option Report) (script : Script) → IfSome report JournalRuns → IfSome report (λ r. AllReleased r.journal) → IfSome report (λ r. length r.lanes ≡ 1) → IfSome report (λ r. AllByRecursion (λ line. line.lane < 1) script.lines → Legal script r)
     → ((taken : List ℕ) → Gave before now taken → (now ≡ Some []) × IsScript taken 1 script) → ((taken : List ℕ) → Gave before now taken → HasNoStop taken 1) → IfSome report (Reported before now)
-reported before now None script runs one legal read no_stop = tt
-reported before now (Some r) script runs one legal read no_stop = record {
+reported before now None script runs released one legal read no_stop = tt
+reported before now (Some r) script runs released one legal read no_stop = record {
   runs = runs;
   one_lane = one;
   read = λ taken gave. let its : (now ≡ Some []) × IsScript taken 1 script = read taken gave in

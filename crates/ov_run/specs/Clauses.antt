@@ -7,6 +7,7 @@ use Rattle.ov_base.specs.Outside.{Rose}
 use Rattle.ov_base.specs.Loops.{AppendsPart}
 use Rattle.ov_model.specs.declared.line.Script.{Script}
 use Rattle.ov_model.specs.declared.report.Report.{Report}
+use Rattle.ov_model.specs.Removals.{RemovalsNoted, AllReleased}
 use Rattle.ov_model.specs.Legal.{Legal, JournalRuns}
 use Rattle.ov_json.specs.Reading.{Gave, IsScript, HasNoStop, Early, Stop, Event, bad_line, passed}
 use Rattle.ov_json.specs.declared.script.ReadStop.{ReadStop}
@@ -48,10 +49,13 @@ pub record Read (taken : List ℕ) (report : Report) : Type 0 where
   pub is_script : IsScript taken 1 script
   pub legal : Legal script report
 
--- A report: the journal is a run with its notes, there is one lane, and where the source tells what it
+-- A report: the journal is a run with its notes, each removal has its notes, no removed peer is left,
+-- there is one lane, and where the source tells what it
 -- holds, it is at its end and the report is legal for the script of what it gave.
 pub record Reported (before now : Option (List ℕ)) (report : Report) : Type 0 where
   pub runs : JournalRuns report
+  pub removals : RemovalsNoted report.journal report.notes
+  pub released : AllReleased report.journal
   pub one_lane : length report.lanes ≡ 1
   pub read : (taken : List ℕ) → Gave before now taken → (now ≡ Some []) × Read taken report
 

@@ -4,6 +4,7 @@ ghost use Rattle.std.specs.Prelude.{◌≡◌, ◌≢◌, ◌<◌, ◌↔◌, �
 ghost use Rattle.std.specs.List.{AllByRecursion};
 ghost use Rattle.ov_base.specs.Outside.{Rose};
 ghost use Rattle.ov_model.specs.Legal.{Legal, JournalRuns};
+ghost use Rattle.ov_model.specs.Removals.{AllReleased};
 ghost use Rattle.ov_json.specs.Reading as reading;
 ghost use Rattle.ov_run.specs.declared.ended.Cause.TheVariants as cause;
 ghost use Rattle.ov_run.specs.Clauses as spec;
@@ -43,6 +44,7 @@ fn trace<K: Sink>(alloc: Global, script: Script, read_lines: u64, sink: &mut K) 
     ensures lines { result.read_lines ≡ read_lines }
     ensures cause { spec.Ran (K.written sink.old) (K.written sink.new) (K.faults sink.old) (K.faults sink.new) result }
     ensures runs { IfSome result.report JournalRuns }
+    ensures released { IfSome result.report (λ report. AllReleased report.journal) }
     ensures one_lane { IfSome result.report (λ report. length report.lanes ≡ 1) }
     ensures legal { IfSome result.report (λ report. AllByRecursion (λ line. line.lane < 1) script.lines → Legal script report) }
 {

@@ -3,6 +3,7 @@
 ghost use Rattle.std.specs.Prelude.{◌≡◌, [], ◌<◌, length, replicate, IfOk};
 ghost use Rattle.std.specs.List.{AllByRecursion};
 ghost use Rattle.ov_model.specs.Legal.{Legal, JournalRuns};
+ghost use Rattle.ov_model.specs.Removals.{AllReleased};
 ghost use Rattle.ov_run.specs.Ran.{no_shards};
 
 use crate::lines::run_lines;
@@ -25,6 +26,7 @@ fn empty_shards(alloc: Global) -> Result<ListOf<ListOf<ReplayEntry>>, Memory>
 /// Runs a script's lines on one lane and gives the report.
 pub fn run_script(alloc: Global, script: Script) -> Result<Report, Memory>
     ensures runs { IfOk result JournalRuns }
+    ensures released { IfOk result (λ report. AllReleased report.journal) }
     ensures legal { IfOk result (λ report. AllByRecursion (λ line. line.lane < 1) script.lines → Legal script report) }
     ensures one_lane { IfOk result (λ report. length report.lanes ≡ 1) }
     ensures shards { IfOk result (λ report. report.shards ≡ no_shards) }
