@@ -68,6 +68,8 @@ legal_of t lines answers told answered all within = record {
         let Q : LaneLog → Type 0 = λ l. LaneMeets (λ _. None) (λ a. a) (steps_of t.journal) no_shards 0 l.lines l.answers [] [] in
         subst P (sym at.0) (subst Q at.1 answered.meets);
   };
+  removals = noted t told;
+  released = let_go t answered.last answered.settled;
 }
 
 -- The lines of a script that was read on one lane are all on lane 0.
@@ -90,6 +92,8 @@ pub reported : (before now : Option (List ℕ)) (report : Option Report) (script
 reported before now None script runs released one legal read no_stop = tt
 reported before now (Some r) script runs released one legal read no_stop = record {
   runs = runs;
+  removals = rw runs.notes (removals_noted r.journal runs.runs);
+  released = released;
   one_lane = one;
   read = λ taken gave. let its : (now ≡ Some []) × IsScript taken 1 script = read taken gave in
       (its.0, record { no_stop = no_stop taken gave; script = script; is_script = its.1; legal = legal (read_within (whole_lines taken) script.lines its.1.lines) });
