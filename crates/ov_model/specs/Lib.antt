@@ -7,3 +7,4 @@ pub mod Events
 pub mod Path
 pub mod Legal
 pub mod Replay
+pub mod Packets
