@@ -11,26 +11,9 @@ ghost use Rattle.ov_model.specs.declared.netlink.NlMessage.{NlMessage};
 ghost use Rattle.ov_json.specs.Grammar as spec;
 
 use crate::member::{address_at, has_only, number_at, text_at};
+use ov_model::netlink::NO_ATTRIBUTES;
 use ov_model::{Deed, Line, NlMessage, NlOp, NlPeer};
 use serde_json::Value;
-
-/// A peer with no attribute given.
-const NO_ATTRIBUTES: NlPeer = NlPeer {
-    id: None,
-    remote_ipv4: None,
-    remote_ipv6: None,
-    remote_ipv6_scope_id: None,
-    remote_port: None,
-    socket: None,
-    socket_netnsid: None,
-    vpn_ipv4: None,
-    vpn_ipv6: None,
-    local_ipv4: None,
-    local_ipv6: None,
-    local_port: None,
-    keepalive_interval: None,
-    keepalive_timeout: None,
-};
 
 /// A peer's id (24 bits), under `id`.
 fn id_at(value: &Value) -> Option<u32>

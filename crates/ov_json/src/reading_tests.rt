@@ -1,5 +1,6 @@
 use crate::{LineStop, ReadStop, Reading, read_line, read_script};
 use ov_base::{ListOf, Memory, MemorySource, Octets, SteadySource};
+use ov_model::netlink::NO_ATTRIBUTES;
 use ov_model::{Deed, Line, NlMessage, NlOp, NlPeer};
 use std::alloc::Global;
 use std::test::Fail;
@@ -13,19 +14,7 @@ const GET: &[u8] = br#"{"at":1,"do":"peer-get","lane":0,"peer":{"id":5}}"#;
 fn named(lane: u32, at: u32, op: NlOp, id: u32) -> Line {
     let peer = NlPeer {
         id: Some(id),
-        remote_ipv4: None,
-        remote_ipv6: None,
-        remote_ipv6_scope_id: None,
-        remote_port: None,
-        socket: None,
-        socket_netnsid: None,
-        vpn_ipv4: None,
-        vpn_ipv6: None,
-        local_ipv4: None,
-        local_ipv6: None,
-        local_port: None,
-        keepalive_interval: None,
-        keepalive_timeout: None,
+        ..NO_ATTRIBUTES
     };
     let message = NlMessage {
         op,

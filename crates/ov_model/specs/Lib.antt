@@ -8,3 +8,4 @@ pub mod Path
 pub mod Legal
 pub mod Replay
 pub mod Removals
+pub mod Packets

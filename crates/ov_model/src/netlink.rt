@@ -27,6 +27,24 @@ pub struct NlPeer {
     pub keepalive_timeout: Option<u32>,
 }
 
+/// A peer with no attribute given.
+pub const NO_ATTRIBUTES: NlPeer = NlPeer {
+    id: None,
+    remote_ipv4: None,
+    remote_ipv6: None,
+    remote_ipv6_scope_id: None,
+    remote_port: None,
+    socket: None,
+    socket_netnsid: None,
+    vpn_ipv4: None,
+    vpn_ipv6: None,
+    local_ipv4: None,
+    local_ipv6: None,
+    local_port: None,
+    keepalive_interval: None,
+    keepalive_timeout: None,
+};
+
 /// One message: its operation and the attributes that came with it.
 #[derive(Clone, Copy, Debug, PartialEq, Eq)]
 pub struct NlMessage {

@@ -135,24 +135,8 @@ pub fn call_of(message: &NlMessage) -> Result<Command, Errno>
 #[cfg(test)]
 mod tests {
     use super::*;
+    use ov_model::netlink::NO_ATTRIBUTES;
     use std::test::Fail;
-
-    const NOTHING_GIVEN: NlPeer = NlPeer {
-        id: None,
-        remote_ipv4: None,
-        remote_ipv6: None,
-        remote_ipv6_scope_id: None,
-        remote_port: None,
-        socket: None,
-        socket_netnsid: None,
-        vpn_ipv4: None,
-        vpn_ipv6: None,
-        local_ipv4: None,
-        local_ipv6: None,
-        local_port: None,
-        keepalive_interval: None,
-        keepalive_timeout: None,
-    };
 
     #[test]
     fn a_message_with_all_that_it_needs_is_a_command(rt: HostRuntime) -> Result<(), Fail> {
@@ -163,7 +147,7 @@ mod tests {
             vpn_ipv4: Some([10, 8, 0, 5]),
             keepalive_interval: Some(10),
             keepalive_timeout: Some(30),
-            ..NOTHING_GIVEN
+            ..NO_ATTRIBUTES
         };
         let message = NlMessage {
             op: NlOp::PeerNew,
@@ -181,7 +165,7 @@ mod tests {
 
     #[test]
     fn a_message_without_a_peer_or_an_id_is_refused(rt: HostRuntime) -> Result<(), Fail> {
-        for peer in [None, Some(NOTHING_GIVEN)] {
+        for peer in [None, Some(NO_ATTRIBUTES)] {
             let message = NlMessage {
                 op: NlOp::PeerGet,
                 ifindex: None,
