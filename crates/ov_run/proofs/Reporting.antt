@@ -1,6 +1,6 @@
 -- The report of one lane is legal for its script.
 use Rattle.std.proofs.Common.{ℕ, ◌≡◌, ◌-◌, ◌<◌, ◌==◌, true, List, [], ◌∷◌, length, refl, sym, ◌∙◌, subst, zero, suc, arith}
-use Rattle.std.specs.Prelude.{Option, Some, None, IfSome, slice_get}
+use Rattle.std.specs.Prelude.{Option, Some, None, Err, IfSome, slice_get}
 use Rattle.std.specs.List.{AllByRecursion}
 use Rattle.std.proofs.lemmas.List.{take_all}
 use Rattle.std.proofs.lemmas.Bool.Decides.{nat_tests}
@@ -16,8 +16,12 @@ use Rattle.ov_model.specs.Removals.{RemovalsNoted, AllReleased}
 use Rattle.ov_model.proofs.Noted.{removals_noted}
 use Rattle.ov_model.proofs.Lanes.{filter_all, all_weaker}
 use Rattle.ov_table.specs.Recorded.{Recorded, IsTold}
-use Rattle.ov_json.specs.Reading.{AreLines, Gave, IsScript, HasNoStop, whole_lines}
-use Rattle.ov_run.specs.Clauses.{Reported}
+use Rattle.ov_json.specs.Reading.{AreLines, Gave, IsScript, HasNoStop, Counts, whole_lines}
+use Rattle.ov_run.specs.Clauses.{Reported, EndsBy, Counted, CountedRun, cause_of_stop}
+use Rattle.ov_json.specs.declared.script.ReadStop.{ReadStop}
+use Rattle.ov_json.specs.declared.script.ReadStop.TheVariants as stop
+use Rattle.ov_run.specs.declared.ended.Cause.{Cause}
+use Rattle.ov_run.specs.declared.ended.Cause.TheVariants as cause
 use Rattle.ov_run.specs.Ran.{Answered, no_shards}
 
 -- The log of one lane with all lines answered.
@@ -98,3 +102,35 @@ reported before now (Some r) script runs released one legal read no_stop = recor
   read = λ taken gave. let its : (now ≡ Some []) × IsScript taken 1 script = read taken gave in
       (its.0, record { no_stop = no_stop taken gave; script = script; is_script = its.1; legal = legal (read_within (whole_lines taken) script.lines its.1.lines) });
 }
+
+-- As many lines were read as the stream has.
+lengths : (lanes : ℕ) (pieces : List (List ℕ)) (lines : List Line) → AreLines lanes pieces lines → length lines ≡ length pieces
+lengths lanes [] [] are = refl
+lengths lanes [] (line ∷ lines) are = absurd are
+lengths lanes (piece ∷ pieces) [] are = absurd are
+lengths lanes (piece ∷ pieces) (line ∷ lines) are = let rest : length lines ≡ length pieces = lengths lanes pieces lines are.1 in omega arith
+
+counted_run : (taken : List ℕ) (good : ℕ) (report : Option Report) → good ≡ length (whole_lines taken) → CountedRun taken good report
+counted_run taken good None is = tt
+counted_run taken good (Some report) is = is
+
+counted_by : (taken : List ℕ) (good : ℕ) (report : Option Report) (c : Cause) (old new : Option (List ℕ)) (before now : ℕ) → EndsBy old new before now report c → good ≡ length (whole_lines taken) → Counted taken good report c
+counted_by taken good report cause.Fine old new before now ends is = is
+counted_by taken good report cause.WriteFault old new before now ends is = is
+counted_by taken good report cause.Memory old new before now ends is = counted_run taken good report is
+counted_by taken good report cause.Usage old new before now ends is = absurd ends
+counted_by taken good report (cause.BadLine n) old new before now ends is = absurd ends
+counted_by taken good report (cause.Limit l) old new before now ends is = absurd ends
+counted_by taken good report cause.ReadFault old new before now ends is = absurd ends
+
+-- A script that was read whole and run has as many good lines as the stream has lines.
+pub all_counted : (taken : List ℕ) (script : Script) (good lines : ℕ) (report : Option Report) (c : Cause) (old new : Option (List ℕ)) (before now : ℕ) → IsScript taken 1 script → good ≡ length script.lines → lines ≡ good → EndsBy old new before now report c → Counted taken lines report c
+all_counted taken script good lines report c old new before now is_script count same ends =
+    counted_by taken lines report c old new before now ends (same ∙ count ∙ lengths 1 (whole_lines taken) script.lines is_script.lines)
+
+-- What is counted where reading stopped.
+pub stop_counted : (taken : List ℕ) (good : ℕ) (s : ReadStop) → Counts taken (Err s) good → Counted taken good None (cause_of_stop s)
+stop_counted taken good stop.Read is = is
+stop_counted taken good (stop.Bad n) is = is
+stop_counted taken good (stop.Limit l) is = is
+stop_counted taken good stop.Memory is = tt

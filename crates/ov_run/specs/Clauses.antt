@@ -1,6 +1,6 @@
 -- What the program promises of one run. A clause on the bytes that were read, or on the script that they
 -- are, holds where the source tells what it holds; one on the bytes that were written, where the sink does.
-use Rattle.std.specs.Prelude.{ℕ, ◌≡◌, ◌⊎◌, List, [], ◌∷◌, length, map, codes, Option, Some, String, string_bytes, ⊤}
+use Rattle.std.specs.Prelude.{None, ℕ, ◌+◌, ◌≡◌, ◌⊎◌, List, [], ◌∷◌, length, map, codes, Option, Some, String, string_bytes, ⊤}
 use Rattle.std.specs.declared.alloc.Global.{Global}
 use Rattle.std.specs.Io.KnownBytes.{Appends}
 use Rattle.ov_base.specs.Outside.{Rose}
@@ -9,7 +9,7 @@ use Rattle.ov_model.specs.declared.line.Script.{Script}
 use Rattle.ov_model.specs.declared.report.Report.{Report}
 use Rattle.ov_model.specs.Removals.{RemovalsNoted, AllReleased}
 use Rattle.ov_model.specs.Legal.{Legal, JournalRuns}
-use Rattle.ov_json.specs.Reading.{Gave, IsScript, HasNoStop, Early, Stop, Event, bad_line, passed}
+use Rattle.ov_json.specs.Reading.{Gave, IsScript, HasNoStop, Early, Stop, Event, bad_line, passed, whole_lines, ended_lines}
 use Rattle.ov_json.specs.declared.script.ReadStop.{ReadStop}
 use Rattle.ov_json.specs.declared.script.ReadStop.TheVariants as stop
 use Rattle.ov_json.specs.Summary.{report_text}
@@ -88,3 +88,19 @@ EndsBy old new before now report cause.ReadFault = ⊥
 
 abbrev pub Ran : Option (List ℕ) → Option (List ℕ) → ℕ → ℕ → Ended → Type 0
 Ran old new before now ended = EndsBy old new before now ended.report ended.cause
+
+-- How many lines were taken and found good, by the cause: all lines where the script was run, those before
+-- a bad one, those that were ended where a read failed or the limit was passed, and none where nothing was
+-- read. Of want of memory before the script was read whole nothing more is said.
+abbrev pub CountedRun : List ℕ → ℕ → Option Report → Type 0
+CountedRun taken good None = ⊤
+CountedRun taken good (Some report) = good ≡ length (whole_lines taken)
+
+abbrev pub Counted : List ℕ → ℕ → Option Report → Cause → Type 0
+Counted taken good report cause.Fine = good ≡ length (whole_lines taken)
+Counted taken good report cause.WriteFault = good ≡ length (whole_lines taken)
+Counted taken good report cause.Memory = CountedRun taken good report
+Counted taken good report cause.Usage = good ≡ 0
+Counted taken good report (cause.BadLine n) = n ≡ good + 1
+Counted taken good report (cause.Limit l) = good ≡ length (ended_lines taken)
+Counted taken good report cause.ReadFault = good ≡ length (ended_lines taken)

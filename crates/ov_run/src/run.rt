@@ -101,6 +101,7 @@ pub fn run_serial<S: Source, K: Sink>(
 
     // Lines counted: the whole lines that were taken and found good.
     ensures read_lines { (taken : List ℕ) → reading.Gave (S.left source.old) (S.left source.new) taken → result.cause ≢ cause.Usage → reading.AreGood 1 (reading.counted_lines taken) result.read_lines }
+    ensures counted { (taken : List ℕ) → reading.Gave (S.left source.old) (S.left source.new) taken → spec.Counted taken result.read_lines result.report result.cause }
 {
     if !is_trace(words) {
         return Ended {

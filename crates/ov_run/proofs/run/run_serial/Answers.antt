@@ -1,7 +1,14 @@
 -- The script was read whole and run: its report is legal.
-use Rattle.ov_run.proofs.Reporting.{reported}
+use Rattle.ov_run.proofs.Reporting.{reported, all_counted, stop_counted}
 use Rattle.ov_run.proofs.run.run_serial.Goals as goal
 
 pub returns-in-Ok-clause-outcome : goal.returns-in-Ok-clause-outcome
 returns-in-Ok-clause-outcome g c = reported _ _ c.trace.result.report c.in-Ok.script c.trace.ensures.runs c.trace.ensures.released c.trace.ensures.one_lane c.trace.ensures.legal
     (rw c.in-Ok.is at c.read_script-good.ensures.script) (rw c.in-Ok.is at c.read_script-good.ensures.no_stop)
+
+pub returns-in-Ok-clause-counted : goal.returns-in-Ok-clause-counted
+returns-in-Ok-clause-counted g c = λ taken gave. all_counted taken c.in-Ok.script c.read_script-good.result.good c.trace.result.read_lines c.trace.result.report c.trace.result.cause _ _ _ _
+    ((rw c.in-Ok.is at c.read_script-good.ensures.script) taken gave).1 ((rw c.in-Ok.is at c.read_script-good.ensures.counted) taken gave) c.trace.ensures.lines c.trace.ensures.cause
+
+pub returns-in-Err-clause-counted : goal.returns-in-Err-clause-counted
+returns-in-Err-clause-counted g c = λ taken gave. rw c.cause_of.ensures (stop_counted taken c.read_script-good.result.good c.in-Err.stop ((rw c.in-Err.is at c.read_script-good.ensures.counted) taken gave))
