@@ -11,7 +11,8 @@ use Rattle.ov_model.specs.declared.line.Line.{Line}
 use Rattle.ov_model.specs.declared.answer.Answer.{Answer}
 use Rattle.ov_model.specs.declared.replay.ReplayEntry.{ReplayEntry}
 use Rattle.ov_model.specs.Events.{Step, Judgement, is_at, of, shown, shown_in}
-use Rattle.ov_model.specs.Path.{Path, Material}
+use Rattle.ov_model.specs.Tables.{Material}
+use Rattle.ov_model.specs.Path.{Path}
 use Rattle.ov_model.specs.Legal.{Meets, NeverFall, LaneMeets}
 
 pub all_append : {X : Type 0} (P : X → Type 0) (xs ys : List X) → AllByRecursion P xs → AllByRecursion P ys → AllByRecursion P (xs ++ ys)

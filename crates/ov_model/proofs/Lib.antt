@@ -3,5 +3,3 @@ pub mod Going
 pub mod Lanes
 pub mod Removing
 pub mod ReplayLemmas
-pub mod Noted
-pub mod Freed

@@ -7,13 +7,14 @@ use Rattle.std.proofs.lemmas.List.{map-append}
 use Rattle.ov_base.specs.declared.address.Transport.{Transport}
 use Rattle.ov_model.specs.declared.command.Attrs.{Attrs}
 use Rattle.ov_model.specs.declared.command.Reason.{Reason}
+use Rattle.ov_model.specs.declared.command.KeyConf.{KeyConf}
 use Rattle.ov_model.specs.declared.command.Command.{Command}
 use Rattle.ov_model.specs.declared.command.Command.TheVariants as command
 use Rattle.ov_model.specs.declared.reply.Reply.TheVariants as reply
 use Rattle.ov_model.specs.declared.reply.Errno.{Errno}
 use Rattle.ov_model.specs.declared.reply.Errno.TheVariants.{NoEntry, Exists, Invalid, NoSpace}
-use Rattle.ov_model.specs.Tables.{Peer, Table, by_id, by_remote, shares_vpn}
-use Rattle.ov_model.specs.Step.{Outcome, refused, peer_of, peer_new, peer_new_at, peer_new_with, peer_get, peer_get_of, remove_peer, removed_at, removed_found, released, command_step}
+use Rattle.ov_model.specs.Tables.{Peer, Table, no_keys, by_id, by_remote, shares_vpn}
+use Rattle.ov_model.specs.Step.{Outcome, refused, peer_of, peer_new, peer_new_at, peer_new_with, peer_get, peer_get_of, remove_peer, removed_at, removed_found, key_new, key_new_place, key_new_found, key_made, released, command_step}
 use Rattle.ov_model.specs.Path.{SomeOf, none, kept, removed}
 
 -- The serials of some peers.
@@ -81,14 +82,23 @@ get_joins t now (Some p) = record { joined = sym (append-nil (serials t.dying)) 
 
 found_joins : (t : Table) (now : ℕ) (reason : Reason) (i : ℕ) (p : Option Peer) → Joins t (removed_found t now reason i p)
 found_joins t now reason i None = joins_refused t now NoEntry
-found_joins t now reason i (Some p) = record { joined = map-append (λ (q : Peer). q.serial) t.dying (p ∷ []) }
+found_joins t now reason i (Some p) = record { joined = map-append (λ (q : Peer). q.serial) t.dying (record p { slots = no_keys } ∷ []) }
 
 at_joins : (t : Table) (now : ℕ) (reason : Reason) (i : Option ℕ) → Joins t (removed_at t now reason i)
 at_joins t now reason None = joins_refused t now NoEntry
 at_joins t now reason (Some i) = found_joins t now reason i (slice_get t.live i)
 
+key_found_joins : (t : Table) (now : ℕ) (c : KeyConf) (i : ℕ) (p : Option Peer) → Joins t (key_new_found t now c i p)
+key_found_joins t now c i None = joins_refused t now NoEntry
+key_found_joins t now c i (Some p) = elim (nat_le 65536 t.keys_made) as (λ b. Joins t (if b then refused t now NoSpace else key_made t now c i p)) [ true ↦ joins_refused t now NoSpace | false ↦ record { joined = sym (append-nil (serials t.dying)) } ]
+
+key_place_joins : (t : Table) (now : ℕ) (c : KeyConf) (i : Option ℕ) → Joins t (key_new_place t now c i)
+key_place_joins t now c None = joins_refused t now NoEntry
+key_place_joins t now c (Some i) = key_found_joins t now c i (slice_get t.live i)
+
 pub command_joins : (t : Table) (now : ℕ) (c : Command) → Joins t (command_step t now c)
-unfolding peer_new peer_get remove_peer
+unfolding peer_new peer_get remove_peer key_new
 command_joins t now (command.PeerNew a) = new_joins t now a a.remote
 command_joins t now (command.PeerGet id) = get_joins t now (by_id id t.live)
 command_joins t now (command.Remove id reason) = at_joins t now reason (position (λ p. p.id.number == id.number) t.live)
+command_joins t now (command.KeyNew c) = key_place_joins t now c (position (λ p. p.id.number == c.peer.number) t.live)

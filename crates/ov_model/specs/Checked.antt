@@ -1,21 +1,31 @@
 -- The attribute checks of the netlink family: the command of a message, or its refusal.
-use Rattle.std.specs.Prelude.{ℕ, List, Bool, false, Option, Some, None, is_some, option_and_then, if◌then◌else◌, not, nat_lt, ◌==◌, ◌&&◌, ◌||◌, Result, Ok, Err}
+use Rattle.std.specs.Prelude.{ℕ, List, length, Bool, false, Option, Some, None, is_some, option_and_then, if◌then◌else◌, not, nat_lt, ◌==◌, ◌&&◌, ◌||◌, Result, Ok, Err}
+use Rattle.ov_aes.specs.declared.key_bytes.KeyBytes.{KeyBytes}
+use Rattle.ov_aes.specs.declared.key_bytes.KeyBytes.TheVariants.{K16, K24, K32}
 use Rattle.ov_base.specs.declared.address.Addr.{Addr}
 use Rattle.ov_base.specs.declared.address.Addr.TheVariants.{V4, V6}
 use Rattle.ov_base.specs.declared.address.Transport.{Transport}
 use Rattle.ov_model.specs.declared.ident.PeerId.{PeerId}
+use Rattle.ov_model.specs.declared.ident.KeyId.{KeyId}
 use Rattle.ov_model.specs.declared.command.Attrs.{Attrs}
 use Rattle.ov_model.specs.declared.command.Keepalive.{Keepalive}
+use Rattle.ov_model.specs.declared.command.Slot.{Slot}
+use Rattle.ov_model.specs.declared.command.KeyDir.{KeyDir}
+use Rattle.ov_model.specs.declared.command.KeyConf.{KeyConf}
 use Rattle.ov_model.specs.declared.command.Command.{Command}
 use Rattle.ov_model.specs.declared.command.Command.TheVariants as command
 use Rattle.ov_model.specs.declared.command.Reason.TheVariants.{Userspace}
 use Rattle.ov_model.specs.declared.reply.Errno.{Errno}
-use Rattle.ov_model.specs.declared.reply.Errno.TheVariants.{Invalid}
+use Rattle.ov_model.specs.declared.reply.Errno.TheVariants.{Invalid, NotSupported}
 use Rattle.ov_model.specs.declared.netlink.NlOp.{NlOp}
 use Rattle.ov_model.specs.declared.netlink.NlOp.TheVariants as op
 use Rattle.ov_model.specs.declared.netlink.NlPeer.{NlPeer}
+use Rattle.ov_model.specs.declared.netlink.Cipher.{Cipher}
+use Rattle.ov_model.specs.declared.netlink.Cipher.TheVariants.{AesGcm}
+use Rattle.ov_model.specs.declared.netlink.NlKeyDir.{NlKeyDir}
+use Rattle.ov_model.specs.declared.netlink.NlKeyConf.{NlKeyConf}
 use Rattle.ov_model.specs.declared.netlink.NlMessage.{NlMessage}
-use Rattle.ov_model.specs.Ident.{peer_id}
+use Rattle.ov_model.specs.Ident.{peer_id, key_id}
 
 -- A port is from 1 to 65535.
 abbrev pub bad_port : Option ℕ → Bool
@@ -64,17 +74,60 @@ keepalive_of _ _ = None
 abbrev pub attrs_of : PeerId → NlPeer → Attrs
 attrs_of id p = record { id = id; remote = transport_of (remote_addr p) p.remote_port; vpn4 = p.vpn_ipv4; vpn6 = p.vpn_ipv6; keepalive = keepalive_of p.keepalive_interval p.keepalive_timeout }
 
+-- An operation on keys doesn't ask for a peer.
 abbrev pub checked_peer : NlOp → NlPeer → Option PeerId → Result Command Errno
 checked_peer _ p None = Err Invalid
 checked_peer op.PeerNew p (Some id) = if is_invalid p then Err Invalid else Ok (command.PeerNew (attrs_of id p))
 checked_peer op.PeerGet p (Some id) = Ok (command.PeerGet id)
 checked_peer op.PeerDel p (Some id) = Ok (command.Remove id Userspace)
+checked_peer op.KeyNew p (Some id) = Err Invalid
 
 abbrev pub checked_with : NlOp → Option NlPeer → Result Command Errno
 checked_with o None = Err Invalid
 checked_with o (Some p) = checked_peer o p (option_and_then peer_id p.id)
 
--- The command of a message; Invalid where its peer or its id is missing, the id is above 16777215,
--- or an attribute of peer-new is invalid.
+-- A key of AES has 16, 24 or 32 bytes (FIPS 197, section 5), and the tail of a nonce has 8.
+abbrev pub key_bytes : List ℕ → Option KeyBytes
+key_bytes bytes =
+    if length bytes == 16 then Some (K16 bytes) else
+    (if length bytes == 24 then Some (K24 bytes) else
+    (if length bytes == 32 then Some (K32 bytes) else None))
+
+abbrev pub tail_bytes : List ℕ → Option (List ℕ)
+tail_bytes bytes = if length bytes == 8 then Some bytes else None
+
+-- One direction of a key, where both its parts are given and in range.
+abbrev pub dir_of : Option KeyBytes → Option (List ℕ) → Option KeyDir
+dir_of (Some key) (Some tail) = Some (record { key = key; tail = tail })
+dir_of _ _ = None
+
+abbrev pub key_dir : NlKeyDir → Option KeyDir
+key_dir d = dir_of (option_and_then key_bytes d.cipher_key) (option_and_then tail_bytes d.nonce_tail)
+
+-- The attributes of key-new, where all are given and in range.
+abbrev pub conf_of : Option PeerId → Option Slot → Option KeyId → Option KeyDir → Option KeyDir → Option KeyConf
+conf_of (Some peer) (Some slot) (Some id) (Some encrypt) (Some decrypt) = Some (record { peer = peer; slot = slot; key_id = id; encrypt = encrypt; decrypt = decrypt })
+conf_of _ _ _ _ _ = None
+
+abbrev pub key_conf : NlKeyConf → Option KeyConf
+key_conf k = conf_of (option_and_then peer_id k.peer_id) k.slot (option_and_then key_id k.key_id) (option_and_then key_dir k.encrypt) (option_and_then key_dir k.decrypt)
+
+-- AES-GCM is the one cipher that is taken.
+abbrev pub with_cipher : Option Cipher → Option KeyConf → Result Command Errno
+with_cipher (Some AesGcm) (Some c) = Ok (command.KeyNew c)
+with_cipher (Some other) (Some c) = Err NotSupported
+with_cipher _ _ = Err Invalid
+
+abbrev pub checked_key : Option NlKeyConf → Result Command Errno
+checked_key None = Err Invalid
+checked_key (Some k) = with_cipher k.cipher (key_conf k)
+
+abbrev pub checked_op : NlOp → NlMessage → Result Command Errno
+checked_op op.KeyNew m = checked_key m.keyconf
+checked_op o m = checked_with o m.peer
+
+-- The command of a message. Of an operation on peers Invalid comes where its peer or its id is missing,
+-- the id is above 16777215, or an attribute of peer-new is invalid; of key-new where an attribute is
+-- missing or out of its range. NotSupported comes of a key-new that is right but for its cipher.
 unfoldable pub checked : NlMessage → Result Command Errno
-checked m = checked_with m.op m.peer
+checked m = checked_op m.op m

@@ -4,6 +4,9 @@ use Rattle.ov_model.specs.declared.place.Place.{Place}
 use Rattle.ov_model.specs.declared.act.Act.{Act}
 use Rattle.ov_model.specs.declared.act.Act.TheVariants as act
 use Rattle.ov_model.specs.declared.entry.Entry.{Entry}
+use Rattle.ov_model.specs.declared.draw.Drawn.{Drawn}
+use Rattle.ov_model.specs.declared.draw.Drawn.TheVariants as drawn
+use Rattle.ov_model.specs.declared.hold.Given.{Given}
 use Rattle.ov_model.specs.declared.hold.Owed.{Owed}
 use Rattle.ov_model.specs.declared.hold.Owed.TheVariants as owed
 use Rattle.ov_model.specs.declared.reply.Reply.{Reply}
@@ -25,6 +28,49 @@ pub record Judgement : Type 0 where
   pub id : ℕ
   pub at : ℕ
   pub verdict : Verdict
+
+-- What happens while a line runs, in its order: a step of the table, a replay step, a draw of a packet
+-- id, and the two give-backs of a hold.
+pub data Event : Type 0 where
+  Stepped : Step → Event
+  Judged : Judgement → Event
+  Drew : (key : ℕ) → Drawn → Event
+  GaveKey : (key : ℕ) → Given → Event
+  GavePeer : (peer : ℕ) → Given → Event
+
+-- The table's steps and the replay steps among some events.
+abbrev pub steps_in : List Event → List Step
+steps_in [] = []
+steps_in (Stepped s ∷ es) = s ∷ steps_in es
+steps_in (Judged j ∷ es) = steps_in es
+steps_in (Drew key d ∷ es) = steps_in es
+steps_in (GaveKey key g ∷ es) = steps_in es
+steps_in (GavePeer peer g ∷ es) = steps_in es
+
+abbrev pub judgements_in : List Event → List Judgement
+judgements_in [] = []
+judgements_in (Stepped s ∷ es) = judgements_in es
+judgements_in (Judged j ∷ es) = j ∷ judgements_in es
+judgements_in (Drew key d ∷ es) = judgements_in es
+judgements_in (GaveKey key g ∷ es) = judgements_in es
+judgements_in (GavePeer peer g ∷ es) = judgements_in es
+
+-- A packet id that was drawn of a key, and the draws among some events.
+pub record DrawnId : Type 0 where
+  pub key : ℕ
+  pub id : ℕ
+
+abbrev pub drawn_id : ℕ → Drawn → List DrawnId
+drawn_id key (drawn.Id n) = record { key = key; id = n } ∷ []
+drawn_id key drawn.Spent = []
+
+abbrev pub draws_in : List Event → List DrawnId
+draws_in [] = []
+draws_in (Stepped s ∷ es) = draws_in es
+draws_in (Judged j ∷ es) = draws_in es
+draws_in (Drew key d ∷ es) = drawn_id key d ++ draws_in es
+draws_in (GaveKey key g ∷ es) = draws_in es
+draws_in (GavePeer peer g ∷ es) = draws_in es
 
 -- The steps of a run, each with what it took.
 abbrev pub steps_after : Table → List Entry → List Step
@@ -60,6 +106,7 @@ step_of place at a r taken = record { entry = record { place = place; call = rec
 -- The releases that a line made, in order.
 abbrev pub release_of : Place → ℕ → Owed → Step
 release_of place at (owed.Peer p) = step_of place at (act.Released p) (reply.Released p) []
+release_of place at (owed.Key k) = step_of place at (act.KeyReleased k) (reply.KeyReleased k) []
 
 abbrev pub releases : Place → ℕ → List Owed → List Step
 releases place at os = map (release_of place at) os

@@ -10,7 +10,10 @@ use Rattle.ov_model.specs.declared.report.LaneLog.{LaneLog}
 use Rattle.ov_model.specs.declared.report.Report.{Report}
 use Rattle.ov_model.specs.Runs.{IsRun, notes_of}
 use Rattle.ov_model.specs.Events.{Step, Judgement, of, shown_in, steps_of}
-use Rattle.ov_model.specs.Path.{Path, Material}
+use Rattle.ov_model.specs.Tables.{Material}
+use Rattle.ov_model.specs.Path.{Path}
+use Rattle.ov_model.specs.Keys.{key_of, IdsCount}
+use Rattle.ov_model.specs.Replay.{ShardJudges}
 use Rattle.ov_model.specs.Removals.{RemovalsNoted, AllReleased}
 
 -- The script's lines of one lane, in order.
@@ -64,14 +67,31 @@ pub record LinesFollowPath (material : ℕ → Option Material) (via : Addr → 
   pub within : AllByRecursion (λ s. s.entry.place.lane < length report.lanes) (steps_of report.journal)
   pub each : (lane : ℕ) (log : LaneLog) → slice_get report.lanes lane ≡ Some log → LaneMeets material via (steps_of report.journal) report.shards lane log.lines log.answers [] []
 
+-- Along a shard, the line numbers of a lane rise: a line makes one replay step at most.
+abbrev pub LinesRise : ℕ → List ReplayEntry → Type 0
+LinesRise lane [] = Unit {0}
+LinesRise lane (r ∷ rs) = (r.place.lane ≡ lane → AllByRecursion (λ later. later.place.lane ≡ lane → r.place.line < later.place.line) rs) × LinesRise lane rs
+
+-- Replay shards: there are eight; each step stands in the shard of its key and has the moment and the
+-- verdict that the earlier steps of its key give it; its lane exists (LaneMeets says that its line does);
+-- and in each lane the line numbers rise along the shard.
+pub record ShardsJudge (report : Report) : Type 0 where
+  pub eight : length report.shards ≡ 8
+  pub judges : (shard : ℕ) (rs : List ReplayEntry) → slice_get report.shards shard ≡ Some rs → ShardJudges shard rs
+  pub within : AllByRecursion (λ shard. AllByRecursion (λ r. r.place.lane < length report.lanes) shard) report.shards
+  pub rise : (lane : ℕ) → AllByRecursion (λ shard. LinesRise lane shard) report.shards
+
 -- Each removal has its notes, in order, with its reason; no peer is removed twice.
 abbrev pub RemovalsAreNoted : Report → Type 0
 RemovalsAreNoted report = RemovalsNoted report.journal report.notes
 
--- A script's report. No key is made yet, and without routes the next hop of an address is itself.
-pub record Legal (script : Script) (report : Report) : Type 0 where
+-- A script's report, where all send counters began at `first`. A key's serial stands for the key that the
+-- journal installed under it, and without routes the next hop of an address is the address itself.
+pub record Legal (script : Script) (first : ℕ) (report : Report) : Type 0 where
   pub lanes : LanesMatch script report
   pub journal : JournalRuns report
-  pub lines : LinesFollowPath (λ _. None) (λ a. a) report
+  pub lines : LinesFollowPath (key_of report.journal) (λ a. a) report
+  pub shards : ShardsJudge report
+  pub ids : IdsCount first report
   pub removals : RemovalsAreNoted report
   pub released : AllReleased report.journal

@@ -3,9 +3,11 @@ pub mod Tables
 pub mod Step
 pub mod Runs
 pub mod Checked
+pub mod Packets
 pub mod Events
 pub mod Path
-pub mod Legal
+pub mod Next
 pub mod Replay
 pub mod Removals
-pub mod Packets
+pub mod Keys
+pub mod Legal

@@ -1,10 +1,12 @@
 -- Datagrams of OpenVPN's data channel (P_DATA_V2) and the packets inside them, as lists of bytes.
-use Rattle.std.specs.Prelude.{ℕ, zero, suc, ◌+◌, ◌*◌, ◌/◌, ◌%◌, ◌^◌, ◌==◌, Bool, true, false, nat_lt, nat_le, ◌&&◌, if◌then◌else◌, List, [], ◌∷◌, ◌++◌, length, take, drop, slice_index}
+use Rattle.std.specs.Prelude.{Option, Some, None, ℕ, zero, suc, ◌+◌, ◌*◌, ◌/◌, ◌%◌, ◌^◌, ◌==◌, Bool, true, false, nat_lt, nat_le, ◌&&◌, if◌then◌else◌, List, [], ◌∷◌, ◌++◌, length, take, drop, slice_index}
 use Rattle.std.specs.Str.{bytes_eq}
 use Rattle.std.specs.Int.{bytes_high_first}
 use Rattle.ov_base.specs.declared.address.Addr.{Addr}
 use Rattle.ov_base.specs.declared.address.Addr.TheVariants.{V4, V6}
-use Rattle.ov_gcm.specs.Gcm.{seal_text, seal_tag}
+use Rattle.ov_aes.specs.Aes.{key_list}
+use Rattle.ov_gcm.specs.Gcm.{seal_text, seal_tag, tag_of, plain}
+use Rattle.ov_model.specs.declared.command.KeyDir.{KeyDir}
 
 -- The number in the n bytes from place i, the highest first (network byte order).
 abbrev pub number_from : ℕ → ℕ → List ℕ → ℕ
@@ -54,6 +56,26 @@ datagram id key_id packet_id key tail packet =
     head_bytes id key_id packet_id
     ++ seal_tag key (nonce_of packet_id tail) (head_bytes id key_id packet_id) packet
     ++ seal_text key (nonce_of packet_id tail) (head_bytes id key_id packet_id) packet
+
+-- The parts of a received data packet, and the packet id in its head.
+abbrev pub head_part : List ℕ → List ℕ
+head_part bytes = take 8 bytes
+
+abbrev pub tag_part : List ℕ → List ℕ
+tag_part bytes = take 16 (drop 8 bytes)
+
+abbrev pub sealed_part : List ℕ → List ℕ
+sealed_part bytes = drop 24 bytes
+
+abbrev pub packet_id_of : List ℕ → ℕ
+packet_id_of bytes = number_from 4 4 bytes
+
+-- The inner packet of a received data packet, where its tag is the one that the key, the nonce of its
+-- packet id, its head and its ciphertext give (SP 800-38D, 7.2); none where it isn't.
+unfoldable pub opened : KeyDir → List ℕ → Option (List ℕ)
+opened d bytes =
+    if bytes_eq (tag_part bytes) (tag_of (key_list d.key) (nonce_of (packet_id_of bytes) d.tail) (head_part bytes) (sealed_part bytes))
+    then Some (plain (key_list d.key) (nonce_of (packet_id_of bytes) d.tail) (sealed_part bytes)) else None
 
 -- ---- the inner packet
 

@@ -1,4 +1,5 @@
--- What a finished run tells of the peers that it removed: their notes, and that none is left dying.
+-- What a finished run tells of the peers that it removed, their notes, and that no peer is left dying and
+-- no key retired.
 use Rattle.std.specs.Prelude.{ℕ, ◌≡◌, ◌<◌, List, [], ◌∷◌, ◌++◌, Bool, true, false, Option, Some, None, if◌then◌else◌, ◌==◌, nat_eq, length, filter, map, slice_get}
 use Rattle.std.specs.Option.{option_or}
 use Rattle.std.specs.List.{IsDistinct}
@@ -14,6 +15,7 @@ use Rattle.ov_model.specs.declared.note.NoteBody.TheVariants as note
 use Rattle.ov_model.specs.declared.reply.Reply.{Reply}
 use Rattle.ov_model.specs.declared.reply.Reply.TheVariants as reply
 use Rattle.ov_model.specs.Runs.{last_table}
+use Rattle.ov_model.specs.Events.{Step, steps_of}
 use Rattle.ov_model.specs.Path.{removed}
 
 -- The id that an act gives to the peer that it makes.
@@ -61,9 +63,11 @@ pub record RemovalsNoted (journal : List Entry) (notes : List Note) : Type 0 whe
   pub each : (n : ℕ) (e : Entry) → slice_get journal n ≡ Some e → map (λ b. Some b) (peer_dels notes n) ≡ map (λ serial. del_note (id_in journal serial) (reason_of e.call.act)) (removed e.reply)
   pub once : IsDistinct nat_eq (removed_in journal)
 
--- Each removed peer was let go: the last table of the run has no dying peer.
-abbrev pub AllReleased : List Entry → Type 0
-AllReleased journal = (last_table journal).dying ≡ []
+-- Each removed peer was let go, and each key that was taken out of its slot: the last table of the run has
+-- no dying peer and no retired key.
+pub record AllReleased (journal : List Entry) : Type 0 where
+  pub peers : (last_table journal).dying ≡ []
+  pub keys : (last_table journal).retired ≡ []
 
 -- The serials of the peers that a journal let go, in order.
 abbrev pub released_by : Act → List ℕ
@@ -78,6 +82,20 @@ released_in (e ∷ es) = released_by e.call.act ++ released_in es
 abbrev pub times : ℕ → List ℕ → ℕ
 times serial serials = length (filter (λ s. s == serial) serials)
 
--- Each removed peer has exactly one entry that lets it go.
-abbrev pub EachReleasedOnce : List Entry → Type 0
-EachReleasedOnce journal = (serial : ℕ) → 0 < times serial (removed_in journal) → times serial (released_in journal) ≡ 1
+-- The keys that a journal let go, in order, and those that it took out of their slots.
+abbrev pub key_released_by : Act → List ℕ
+key_released_by (act.KeyReleased serial) = serial ∷ []
+key_released_by _ = []
+
+abbrev pub keys_released_in : List Entry → List ℕ
+keys_released_in [] = []
+keys_released_in (e ∷ es) = key_released_by e.call.act ++ keys_released_in es
+
+abbrev pub keys_taken_in : List Step → List ℕ
+keys_taken_in [] = []
+keys_taken_in (s ∷ steps) = s.taken ++ keys_taken_in steps
+
+-- Each removed peer has exactly one entry that lets it go, and so has each key that left its slot.
+pub record EachReleasedOnce (journal : List Entry) : Type 0 where
+  pub peers : (serial : ℕ) → 0 < times serial (removed_in journal) → times serial (released_in journal) ≡ 1
+  pub keys : (serial : ℕ) → 0 < times serial (keys_taken_in (steps_of journal)) → times serial (keys_released_in journal) ≡ 1

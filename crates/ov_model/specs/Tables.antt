@@ -1,13 +1,36 @@
 -- The state of the peer table: lists in the order of making. The code may find peers by other means.
-use Rattle.std.specs.Prelude.{ℕ, List, [], Bool, Option, Some, find, ◌==◌, ◌||◌, false}
+use Rattle.std.specs.Prelude.{ℕ, List, [], ◌∷◌, ◌++◌, Bool, Option, Some, None, find, map, ◌==◌, ◌||◌, false, if◌then◌else◌}
 use Rattle.std.specs.Str.{bytes_eq}
+use Rattle.ov_base.specs.declared.address.Addr.{Addr}
+use Rattle.ov_base.specs.declared.address.Addr.TheVariants.{V4, V6}
 use Rattle.ov_base.specs.declared.address.Transport.{Transport}
 use Rattle.ov_base.specs.Address.{same_transport}
 use Rattle.ov_model.specs.declared.ident.PeerId.{PeerId}
+use Rattle.ov_model.specs.declared.ident.KeyId.{KeyId}
 use Rattle.ov_model.specs.declared.command.Keepalive.{Keepalive}
 use Rattle.ov_model.specs.declared.command.Attrs.{Attrs}
+use Rattle.ov_model.specs.declared.command.Slot.{Slot}
+use Rattle.ov_model.specs.declared.command.Slot.TheVariants.{Primary, Secondary}
+use Rattle.ov_model.specs.declared.command.KeyDir.{KeyDir}
 use Rattle.ov_model.specs.declared.reply.Counts.{Counts}
 use Rattle.ov_model.specs.declared.reply.PeerView.{PeerView}
+
+-- What an installed key seals with and opens with.
+pub record Material : Type 0 where
+  pub encrypt : KeyDir
+  pub decrypt : KeyDir
+
+-- What the table keeps of one key. A serial is the number of keys made before it, so it is never given
+-- twice; an id is what datagrams call the key, and may come again.
+pub record Key : Type 0 where
+  pub serial : ℕ
+  pub key_id : KeyId
+  pub material : Material
+
+-- The keys that a peer has: the primary seals, both open.
+pub record Slots : Type 0 where
+  pub primary : Option Key
+  pub secondary : Option Key
 
 -- What the table keeps of one peer. A serial is the number of peers made before it, so it is never
 -- given twice; an id is what packets and commands call the peer, and may come again.
@@ -21,17 +44,65 @@ pub record Peer : Type 0 where
   pub counts : Counts
   pub last_received : ℕ
   pub last_sent : ℕ
+  pub slots : Slots
 
 -- live: the peers that packets and commands reach; dying: the removed ones that aren't let go yet;
--- made: how many were ever made; moment: the greatest moment that the table has seen, in seconds.
+-- retired: the keys that were taken out of their slots and aren't let go yet; made, keys_made: how many
+-- were ever made; moment: the greatest moment that the table has seen, in seconds.
 pub record Table : Type 0 where
   pub live : List Peer
   pub dying : List Peer
+  pub retired : List Key
   pub made : ℕ
+  pub keys_made : ℕ
   pub moment : ℕ
 
 abbrev pub empty_table : Table
-empty_table = record { live = []; dying = []; made = 0; moment = 0 }
+empty_table = record { live = []; dying = []; retired = []; made = 0; keys_made = 0; moment = 0 }
+
+-- ---- keys and slots
+
+abbrev pub no_keys : Slots
+no_keys = record { primary = None; secondary = None }
+
+-- What stands in a slot, and the slots with something else in one.
+abbrev pub in_slot : Slot → Slots → Option Key
+in_slot Primary s = s.primary
+in_slot Secondary s = s.secondary
+
+abbrev pub with_slot : Slot → Option Key → Slots → Slots
+with_slot Primary k s = record s { primary = k }
+with_slot Secondary k s = record s { secondary = k }
+
+-- The keys of the slots, the primary's first.
+abbrev pub key_if_any : Option Key → List Key
+key_if_any None = []
+key_if_any (Some k) = k ∷ []
+
+abbrev pub keys_in : Slots → List Key
+keys_in s = key_if_any s.primary ++ key_if_any s.secondary
+
+abbrev pub key_serials : List Key → List ℕ
+key_serials keys = map (λ k. k.serial) keys
+
+-- The key with a key id: the primary slot is looked at first.
+abbrev pub by_key_id : KeyId → Slots → Option Key
+by_key_id id s = find (λ k. k.key_id.number == id.number) (keys_in s)
+
+-- The key with a serial, and the slots without it.
+abbrev pub by_key : ℕ → Slots → Option Key
+by_key key s = find (λ k. k.serial == key) (keys_in s)
+
+abbrev pub is_key : ℕ → Option Key → Bool
+is_key key None = false
+is_key key (Some k) = k.serial == key
+
+abbrev pub without_key : ℕ → Slots → Slots
+without_key key s =
+    if is_key key s.primary then record s { primary = None } else
+    (if is_key key s.secondary then record s { secondary = None } else s)
+
+-- ---- peers
 
 -- The live peer with an id, or with a serial: the first in the order of making.
 abbrev pub by_id : PeerId → List Peer → Option Peer
@@ -48,6 +119,14 @@ by_remote remote peers = find (λ p. same_transport p.remote remote) peers
 abbrev pub same_vpn : Option (List ℕ) → Option (List ℕ) → Bool
 same_vpn (Some a) (Some b) = bytes_eq a b
 same_vpn _ _ = false
+
+-- The peer with a VPN address: the first that has it.
+abbrev pub has_vpn : Addr → Peer → Bool
+has_vpn (V4 a) p = same_vpn p.vpn4 (Some a)
+has_vpn (V6 a) p = same_vpn p.vpn6 (Some a)
+
+abbrev pub by_vpn : Addr → List Peer → Option Peer
+by_vpn a peers = find (has_vpn a) peers
 
 -- Whether one of the VPN addresses in some attributes is one of a peer's.
 abbrev pub shares_vpn : Attrs → Peer → Bool

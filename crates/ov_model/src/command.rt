@@ -1,6 +1,7 @@
 //! The commands of the netlink family, with their attributes checked.
 
-use crate::ident::PeerId;
+use crate::ident::{KeyId, PeerId};
+use ov_aes::KeyBytes;
 use ov_base::Transport;
 
 /// Why a peer was removed (the netlink attribute del-reason).
@@ -39,6 +40,35 @@ pub struct Attrs {
     pub keepalive: Option<Keepalive>,
 }
 
+/// The places for keys that a peer has.
+#[derive(Clone, Copy, Debug, PartialEq, Eq)]
+pub enum Slot {
+    /// The key that seals what is sent.
+    Primary,
+    /// A key that opens what is received, and nothing else.
+    Secondary,
+}
+
+/// One direction of a key: the bytes of the AES key, and the 8 bytes that stand behind the packet id in
+/// each nonce.
+#[derive(Clone, Copy, Debug, PartialEq, Eq)]
+pub struct KeyDir {
+    pub key: KeyBytes,
+    pub tail: [u8; 8],
+}
+
+/// The attributes of a key that a command gives. The two directions may have keys of different lengths.
+#[derive(Clone, Copy, Debug, PartialEq, Eq)]
+pub struct KeyConf {
+    pub peer: PeerId,
+    pub slot: Slot,
+    pub key_id: KeyId,
+    /// What is sealed, and sent.
+    pub encrypt: KeyDir,
+    /// What is received, and opened.
+    pub decrypt: KeyDir,
+}
+
 /// A command that passed the attribute checks.
 #[derive(Clone, Copy, Debug, PartialEq, Eq)]
 pub enum Command {
@@ -46,4 +76,6 @@ pub enum Command {
     PeerGet(PeerId),
     /// The operation peer-del, with the reason that its note will give.
     Remove(PeerId, Reason),
+    /// The operation key-new: the key replaces what stands in its slot.
+    KeyNew(KeyConf),
 }

@@ -9,8 +9,9 @@ pub enum Given {
     Last,
 }
 
-/// A release that is owed: the serial of the peer.
+/// A release that is owed: the serial of the peer or of the key.
 #[derive(Clone, Copy, Debug, PartialEq, Eq)]
 pub enum Owed {
     Peer(u32),
+    Key(u32),
 }

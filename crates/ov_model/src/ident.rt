@@ -47,8 +47,11 @@ pub struct KeyId {
 }
 
 impl KeyId {
+    ghost use Rattle.ov_model.specs.Ident.{key_id};
+
     /// The id with the number `n`; `None` exactly where `n` is above 7.
     pub fn new(n: u8) -> Option<KeyId>
+        ensures value { result ≡ key_id n }
         ensures none { IsNone result ↔ (7 < n) }
         ensures some { IfSome result (λ id. id.number ≡ n) }
     {

@@ -1,11 +1,23 @@
 //! Messages of the netlink family as a control program sends them: every attribute as it was given.
 
+use crate::command::Slot;
+use ov_base::Octets;
+
 /// The operations of the family that are taken.
 #[derive(Clone, Copy, Debug, PartialEq, Eq)]
 pub enum NlOp {
     PeerNew,
     PeerGet,
     PeerDel,
+    KeyNew,
+}
+
+/// The ciphers of the family.
+#[derive(Clone, Copy, Debug, PartialEq, Eq)]
+pub enum Cipher {
+    NoCipher,
+    AesGcm,
+    ChaCha20Poly1305,
 }
 
 /// The attributes of a peer as they were given, in no range yet. Addresses are in network order.
@@ -45,11 +57,30 @@ pub const NO_ATTRIBUTES: NlPeer = NlPeer {
     keepalive_timeout: None,
 };
 
+/// One direction of a key as it was given: bytes in no range yet.
+#[derive(Debug, Drop, PartialEq, Eq)]
+pub struct NlKeyDir {
+    pub cipher_key: Option<Octets>,
+    pub nonce_tail: Option<Octets>,
+}
+
+/// The attributes of a key as they were given, in no range yet.
+#[derive(Debug, Drop, PartialEq, Eq)]
+pub struct NlKeyConf {
+    pub peer_id: Option<u32>,
+    pub slot: Option<Slot>,
+    pub key_id: Option<u32>,
+    pub cipher: Option<Cipher>,
+    pub encrypt: Option<NlKeyDir>,
+    pub decrypt: Option<NlKeyDir>,
+}
+
 /// One message: its operation and the attributes that came with it.
-#[derive(Clone, Copy, Debug, PartialEq, Eq)]
+#[derive(Debug, Drop, PartialEq, Eq)]
 pub struct NlMessage {
     pub op: NlOp,
     /// The device. It is accepted and not used.
     pub ifindex: Option<u32>,
     pub peer: Option<NlPeer>,
+    pub keyconf: Option<NlKeyConf>,
 }

@@ -1,7 +1,7 @@
 //! What the steps of the peer table answer.
 
 use crate::command::Keepalive;
-use crate::ident::PeerId;
+use crate::ident::{KeyId, PeerId};
 use ov_base::{ListOf, Transport};
 
 /// Why a command was refused, by the names of Linux's error numbers.
@@ -13,8 +13,10 @@ pub enum Errno {
     Exists,
     /// EINVAL, 22: an attribute is missing or out of range.
     Invalid,
-    /// ENOSPC, 28: as many peers were made as a session may make.
+    /// ENOSPC, 28: as many peers or keys were made as a session may make.
     NoSpace,
+    /// EOPNOTSUPP, 95: the cipher isn't taken.
+    NotSupported,
 }
 
 /// What went over a peer: bytes and packets, inside the tunnel (vpn) and outside (link), received
@@ -42,15 +44,53 @@ pub struct PeerView {
     pub counts: Counts,
 }
 
-/// The reply of one step. Peers are named by their serials: the number of peers made before them.
+/// What a look-up found and holds until it is given back: the serials and ids of the peer and of its
+/// key, and the peer's remote at that step.
+#[derive(Clone, Copy, Debug, PartialEq, Eq)]
+pub struct HoldView {
+    pub peer: u32,
+    pub id: PeerId,
+    pub key: u32,
+    pub key_id: KeyId,
+    pub to: Transport,
+}
+
+/// What becomes of a fresh inner packet.
+#[derive(Clone, Copy, Debug, PartialEq, Eq)]
+pub enum Settled {
+    /// Its source is the peer's: it is delivered.
+    Deliver,
+    /// It is the keepalive message.
+    Ping,
+    /// It isn't an IP packet.
+    NotIp,
+    /// Its source isn't the peer's, or the peer is no longer live.
+    NotOwner,
+}
+
+/// The reply of one step. Peers are named by their serials, the number of peers made before them, and
+/// keys by theirs, the number of keys made before them.
 #[derive(Debug, Drop, PartialEq, Eq)]
 pub enum Reply {
-    /// The serial of the new peer.
+    /// The serial of the new peer, or of the new key.
     Made(u32),
+    Done,
     Peer(PeerView),
     /// The serials of the removed peers.
     Removed(ListOf<u32>),
+    Hold(HoldView),
+    /// No live peer was found.
+    NoPeer,
+    /// The peer has no such key.
+    NoKey,
+    Settled(Settled),
+    /// The spent key was taken out of its slot.
+    Killed,
+    /// The spent key stood in no slot of the peer any more.
+    AlreadyGone,
     /// The serial of the peer that was let go.
     Released(u32),
+    /// The serial of the key that was let go.
+    KeyReleased(u32),
     Refused(Errno),
 }

@@ -1,0 +1,172 @@
+-- What a line does next: the stand that its events so far give it, and the event that its next turn makes.
+use Rattle.std.specs.Prelude.{ℕ, List, [], ◌∷◌, Bool, true, false, Option, Some, None}
+use Rattle.ov_base.specs.declared.address.Addr.{Addr}
+use Rattle.ov_model.specs.declared.act.Act.{Act}
+use Rattle.ov_model.specs.declared.act.Act.TheVariants as act
+use Rattle.ov_model.specs.declared.draw.Drawn.{Drawn}
+use Rattle.ov_model.specs.declared.draw.Drawn.TheVariants as drawn
+use Rattle.ov_model.specs.declared.hold.Owed.{Owed}
+use Rattle.ov_model.specs.declared.hold.Owed.TheVariants as owed
+use Rattle.ov_model.specs.declared.reply.HoldView.{HoldView}
+use Rattle.ov_model.specs.declared.reply.Reply.{Reply}
+use Rattle.ov_model.specs.declared.reply.Reply.TheVariants as reply
+use Rattle.ov_model.specs.declared.replay.Verdict.{Verdict}
+use Rattle.ov_model.specs.declared.replay.Verdict.TheVariants as verdict
+use Rattle.ov_model.specs.declared.stand.Stand.{Stand}
+use Rattle.ov_model.specs.declared.stand.Stand.TheVariants as stand
+use Rattle.ov_model.specs.declared.stand.Use.TheVariants as used
+use Rattle.ov_model.specs.declared.line.Line.{Line}
+use Rattle.ov_model.specs.declared.line.Deed.{Deed}
+use Rattle.ov_model.specs.declared.line.Deed.TheVariants as deed
+use Rattle.ov_model.specs.Tables.{Material}
+use Rattle.ov_model.specs.Packets.{opened, packet_id_of}
+use Rattle.ov_model.specs.Events.{Event, Stepped, Judged, Drew, GaveKey, GavePeer}
+use Rattle.ov_model.specs.Path.{Begin, at_once, first, begins, packet_in, sent_act, settle_act}
+
+-- ---- the stand
+
+abbrev pub is_killed : Reply → Bool
+is_killed reply.Killed = true
+is_killed _ = false
+
+abbrev pub looked : Reply → Stand
+looked (reply.Hold h) = stand.Looked h
+looked _ = stand.Missed
+
+-- After a step of the table. A release changes nothing.
+abbrev pub began : Act → Reply → Stand
+began (act.Do c) r = stand.Replied
+began (act.TxLook a) r = looked r
+began (act.RxLook id key_id from) r = looked r
+began _ r = stand.Fresh
+
+abbrev pub drew_used : HoldView → Drawn → Act → Reply → Stand
+drew_used h (drawn.Id n) (act.Sent peer inner outer ping) r = stand.Used h (used.Sealed n)
+drew_used h drawn.Spent (act.Spend peer key) r = stand.Used h (used.Spent (is_killed r))
+drew_used h d _ r = stand.Drew h d
+
+abbrev pub judged_used : HoldView → Reply → Stand
+judged_used h (reply.Settled s) = stand.Used h (used.Settled s)
+judged_used h _ = stand.Judged h
+
+abbrev pub stepped : Stand → Act → Reply → Stand
+stepped stand.Fresh a r = began a r
+stepped (stand.Drew h d) a r = drew_used h d a r
+stepped (stand.Judged h) a r = judged_used h r
+stepped s a r = s
+
+-- After a replay step.
+abbrev pub judged_as : HoldView → Verdict → Stand
+judged_as h verdict.Accept = stand.Judged h
+judged_as h v = stand.Used h (used.Refused v)
+
+abbrev pub judged : Stand → Verdict → Stand
+judged (stand.Looked h) v = judged_as h v
+judged s v = s
+
+-- After a draw, and after the give-backs. A key that is given back unused had a tag that doesn't verify.
+abbrev pub drew : Stand → Drawn → Stand
+drew (stand.Looked h) d = stand.Drew h d
+drew s d = s
+
+abbrev pub gave_key : Stand → Stand
+gave_key (stand.Looked h) = stand.KeyGiven h used.BadTag
+gave_key (stand.Used h u) = stand.KeyGiven h u
+gave_key s = s
+
+abbrev pub gave_peer : Stand → Stand
+gave_peer (stand.KeyGiven h u) = stand.PeerGiven h u
+gave_peer s = s
+
+abbrev pub see : Stand → Event → Stand
+see s (Stepped e) = stepped s e.entry.call.act e.entry.reply
+see s (Judged j) = judged s j.verdict
+see s (Drew key d) = drew s d
+see s (GaveKey key g) = gave_key s
+see s (GavePeer peer g) = gave_peer s
+
+-- Where some events leave a line.
+abbrev pub see_all : Stand → List Event → Stand
+see_all s [] = s
+see_all s (e ∷ es) = see_all (see s e) es
+
+abbrev pub stand_of : List Event → Stand
+stand_of es = see_all stand.Fresh es
+
+-- ---- the next event
+
+-- What a turn asks for: a step of the table, a replay step of a key's window, a draw, a give-back, nothing
+-- since the line is answered at once, or nothing since the line is over.
+pub data Ask : Type 0 where
+  Table : Act → Ask
+  Replay : (key id : ℕ) → Ask
+  Draw : (key : ℕ) → Ask
+  GiveKey : (key : ℕ) → Ask
+  GivePeer : (peer : ℕ) → Ask
+  Nil : Ask
+  Over : Ask
+
+-- What an event was asked by.
+abbrev pub request : Event → Ask
+request (Stepped s) = Table s.entry.call.act
+request (Judged j) = Replay j.key j.id
+request (Drew key d) = Draw key
+request (GaveKey key g) = GiveKey key
+request (GavePeer peer g) = GivePeer peer
+
+-- The line begins.
+abbrev pub asks_first : Begin → Ask
+asks_first (at_once a) = Nil
+asks_first (first a) = Table a
+
+-- With a hold: tx draws a packet id; rx has the id judged where the tag verifies.
+abbrev pub asks_opened : HoldView → List ℕ → Option (List ℕ) → Ask
+asks_opened h bytes (Some packet) = Replay h.key (packet_id_of bytes)
+asks_opened h bytes None = GiveKey h.key
+
+abbrev pub asks_open : HoldView → List ℕ → Option Material → Ask
+asks_open h bytes (Some m) = asks_opened h bytes (opened m.decrypt bytes)
+asks_open h bytes None = GiveKey h.key
+
+abbrev pub asks_held : Option Material → HoldView → Deed → Ask
+asks_held m h (deed.Tx packet) = Draw h.key
+asks_held m h (deed.Rx from bytes) = asks_open h bytes m
+asks_held m h (deed.Netlink n) = Over
+
+-- After a draw: the packet was sealed, or the key is spent.
+abbrev pub asks_drawn : HoldView → Drawn → Deed → Ask
+asks_drawn h (drawn.Id n) (deed.Tx packet) = Table (sent_act h packet)
+asks_drawn h drawn.Spent (deed.Tx packet) = Table (act.Spend h.peer h.key)
+asks_drawn h d _ = Over
+
+-- After a fresh packet id: the packet is settled.
+abbrev pub asks_settle : (Addr → Addr) → HoldView → Deed → List ℕ → Ask
+asks_settle via h (deed.Rx from bytes) packet = Table (settle_act via h packet bytes)
+asks_settle via h _ packet = Over
+
+abbrev pub asks_judged : (Addr → Addr) → HoldView → Deed → Option Material → Ask
+asks_judged via h d (Some m) = asks_settle via h d (packet_in d m)
+asks_judged via h d None = Over
+
+abbrev pub asks : (Addr → Addr) → (ℕ → Option Material) → Deed → Stand → Ask
+asks via material d stand.Fresh = asks_first (begins via d)
+asks via material d stand.Replied = Over
+asks via material d stand.Missed = Over
+asks via material d (stand.Looked h) = asks_held (material h.key) h d
+asks via material d (stand.Drew h drawn) = asks_drawn h drawn d
+asks via material d (stand.Judged h) = asks_judged via h d (material h.key)
+asks via material d (stand.Used h u) = GiveKey h.key
+asks via material d (stand.KeyGiven h u) = GivePeer h.peer
+asks via material d (stand.PeerGiven h u) = Over
+
+abbrev pub release_act : Owed → Act
+release_act (owed.Peer p) = act.Released p
+release_act (owed.Key k) = act.KeyReleased k
+
+-- What is owed is released first.
+abbrev pub next_owing : (Addr → Addr) → (ℕ → Option Material) → Deed → Stand → List Owed → Ask
+next_owing via material d s [] = asks via material d s
+next_owing via material d s (o ∷ os) = Table (release_act o)
+
+abbrev pub next : (Addr → Addr) → (ℕ → Option Material) → Line → List Event → List Owed → Ask
+next via material line es os = next_owing via material line.deed (stand_of es) os
