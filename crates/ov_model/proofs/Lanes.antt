@@ -1,7 +1,8 @@
 -- A lane goes on: more steps of the line under way, and the line's answer.
 use Rattle.std.proofs.Common.{ℕ, ◌≡◌, ◌≢◌, ◌+◌, ◌≤◌, ◌<◌, List, [], ◌∷◌, ◌++◌, length, refl, sym, ◌∙◌, ap, subst, Bool, true, false, arith, append-nil, length-append, zero, suc, inl, inr, ◌⊎◌}
-use Rattle.std.specs.Prelude.{filter, Option, Some, slice_get}
+use Rattle.std.specs.Prelude.{filter, map, Option, Some, slice_get, if◌then◌else◌}
 use Rattle.std.specs.List.{AllByRecursion}
+use Rattle.std.proofs.lemmas.List.{map-append}
 use Rattle.std.proofs.lemmas.List.Elements.{filter-append}
 use Rattle.std.proofs.lemmas.Bool.{cases_lt}
 use Rattle.std.proofs.lemmas.Bool.Decides.{nat_tests}
@@ -10,10 +11,10 @@ use Rattle.ov_model.specs.declared.place.Place.{Place}
 use Rattle.ov_model.specs.declared.line.Line.{Line}
 use Rattle.ov_model.specs.declared.answer.Answer.{Answer}
 use Rattle.ov_model.specs.declared.replay.ReplayEntry.{ReplayEntry}
-use Rattle.ov_model.specs.Events.{Step, Judgement, is_at, of, shown, shown_in}
+use Rattle.ov_model.specs.Events.{Step, Judgement, judgement_of, is_at, of, shown, shown_in}
 use Rattle.ov_model.specs.Tables.{Material}
-use Rattle.ov_model.specs.Path.{Path}
-use Rattle.ov_model.specs.Legal.{Meets, NeverFall, LaneMeets}
+use Rattle.ov_model.specs.Path.{Path, Row, AtOnce, Commanded, Missed, Held, RowFits}
+use Rattle.ov_model.specs.Legal.{Meets, NeverFall, LaneMeets, LinesRise}
 
 pub all_append : {X : Type 0} (P : X → Type 0) (xs ys : List X) → AllByRecursion P xs → AllByRecursion P ys → AllByRecursion P (xs ++ ys)
 all_append P [] ys a b = b
@@ -133,3 +134,125 @@ line_done {m} {via} ss shards lane lines line answers a now judged meets line_is
       (λ shard each. all_weaker (λ r. r.place.lane ≡ lane → r.place.line ≤ length answers) (λ r. r.place.lane ≡ lane → r.place.line ≢ length (answers ++ a ∷ []))
       (λ r w own e. let old : r.place.line ≤ length answers = w own in absurd (omega arith)) shard each) shards meets.judged_within);
 }
+
+-- ---- keys that are made later
+
+-- What is known of the keys may become more.
+abbrev pub Knows : (old new : ℕ → Option Material) → Type 0
+Knows old new = (key : ℕ) (x : Material) → old key ≡ Some x → new key ≡ Some x
+
+fits_knows : (old new : ℕ → Option Material) (via : Addr → Addr) (line : Line) (row : Row) → Knows old new → RowFits old via line row → RowFits new via line row
+fits_knows old new via line (AtOnce a) knows fits = fits
+fits_knows old new via line (Commanded c r taken os) knows fits = fits
+fits_knows old new via line (Missed a r cause) knows fits = fits
+fits_knows old new via line (Held a h m u key peer) knows fits = (fits.0, knows h.key m fits.1, fits.2)
+
+pub path_knows : (old new : ℕ → Option Material) (via : Addr → Addr) (place : Place) (line : Line) (ss : List Step) (js : List Judgement) (a : Answer) → Knows old new → Path old via place line ss js a → Path new via place line ss js a
+path_knows old new via place line ss js a knows path = record {
+  row = path.row;
+  fits = fits_knows old new via line path.row knows path.fits;
+  steps_are = path.steps_are;
+  judgements_are = path.judgements_are;
+  answer_is = path.answer_is;
+}
+
+pub lane_knows : (old new : ℕ → Option Material) (via : Addr → Addr) (ss : List Step) (shards : List (List ReplayEntry)) (lane : ℕ) (lines : List Line) (answers : List Answer) (now : List Step) (judged : List Judgement) → Knows old new → LaneMeets old via ss shards lane lines answers now judged → LaneMeets new via ss shards lane lines answers now judged
+lane_knows old new via ss shards lane lines answers now judged knows meets = record {
+  within = meets.within;
+  judged_within = meets.judged_within;
+  falls = meets.falls;
+  each = λ i below. let was : Meets old via ss shards lane lines answers i = meets.each i below in record {
+    line = was.line;
+    answer = was.answer;
+    line_is = was.line_is;
+    answer_is = was.answer_is;
+    path = path_knows old new via _ was.line _ _ was.answer knows was.path;
+  };
+  under_way = meets.under_way;
+  judging = meets.judging;
+}
+
+-- ---- a replay step of the line under way
+
+shown-append : (rs more : List ReplayEntry) (lane line : ℕ) → shown (rs ++ more) lane line ≡ shown rs lane line ++ shown more lane line
+shown-append rs more lane line = rw (filter-append (λ (r : ReplayEntry). is_at lane line r.place) rs more) (map-append judgement_of (filter (λ r. is_at lane line r.place) rs) (filter (λ r. is_at lane line r.place) more))
+
+-- The shards with one more step at the end of one of them.
+abbrev pub judged_in : List (List ReplayEntry) → ℕ → ReplayEntry → List (List ReplayEntry)
+judged_in [] k r = []
+judged_in (rs ∷ shards) zero r = (rs ++ r ∷ []) ∷ shards
+judged_in (rs ∷ shards) (suc k) r = rs ∷ judged_in shards k r
+
+-- Another line's steps stay.
+judged_elsewhere : (shards : List (List ReplayEntry)) (k : ℕ) (r : ReplayEntry) (lane line : ℕ) → is_at lane line r.place ≡ false → shown_in (judged_in shards k r) lane line ≡ shown_in shards lane line
+judged_elsewhere [] k r lane line other = refl
+judged_elsewhere (rs ∷ shards) zero r lane line other =
+    let none : shown (r ∷ []) lane line ≡ [] = rw other refl in
+    ap (λ s. s ++ shown_in shards lane line) (shown-append rs (r ∷ []) lane line ∙ rw none (append-nil (shown rs lane line)))
+judged_elsewhere (rs ∷ shards) (suc k) r lane line other = ap (λ s. shown rs lane line ++ s) (judged_elsewhere shards k r lane line other)
+
+-- Two lists that are empty together are empty.
+both_empty : {X : Type 0} (xs ys : List X) → xs ++ ys ≡ [] → (xs ≡ []) × (ys ≡ [])
+both_empty [] ys none = (refl, none)
+both_empty (x ∷ xs) ys none = absurd (cc)
+
+-- The line's own first replay step is shown, wherever its shard stands.
+judged_here : (shards : List (List ReplayEntry)) (k : ℕ) (r : ReplayEntry) (lane line : ℕ) → k < length shards → is_at lane line r.place ≡ true → shown_in shards lane line ≡ [] → shown_in (judged_in shards k r) lane line ≡ judgement_of r ∷ []
+judged_here [] k r lane line below at none = absurd (omega arith)
+judged_here (rs ∷ shards) zero r lane line below at none =
+    let empty = both_empty (shown rs lane line) (shown_in shards lane line) none in
+    let one : shown (r ∷ []) lane line ≡ judgement_of r ∷ [] = rw at refl in
+    rw (shown-append rs (r ∷ []) lane line, empty.0, empty.1, one) refl
+judged_here (rs ∷ shards) (suc k) r lane line below at none =
+    let empty = both_empty (shown rs lane line) (shown_in shards lane line) none in
+    rw (empty.0) (judged_here shards k r lane line (omega arith) at empty.1)
+
+pub all_judged : (P : ReplayEntry → Type 0) (shards : List (List ReplayEntry)) (k : ℕ) (r : ReplayEntry) → AllByRecursion (AllByRecursion P) shards → P r → AllByRecursion (AllByRecursion P) (judged_in shards k r)
+all_judged P [] k r all one = tt
+all_judged P (rs ∷ shards) zero r all one = (all_append P rs (r ∷ []) all.0 (one, tt), all.1)
+all_judged P (rs ∷ shards) (suc k) r all one = (all.0, all_judged P shards k r all.1 one)
+
+pub own_judged : {m : ℕ → Option Material} {via : Addr → Addr} (ss : List Step) (shards : List (List ReplayEntry)) (k : ℕ) (r : ReplayEntry) (lane : ℕ) (lines : List Line) (answers : List Answer) (now : List Step) → LaneMeets m via ss shards lane lines answers now [] → k < length shards → r.place ≡ record { lane = lane; line = length answers } → LaneMeets m via ss (judged_in shards k r) lane lines answers now (judgement_of r ∷ [])
+own_judged {m} {via} ss shards k r lane lines answers now meets below at =
+    let line : r.place.line ≡ length answers = ap (λ p. p.line) at in record {
+      within = meets.within;
+      judged_within = all_judged (λ s. s.place.lane ≡ lane → s.place.line ≤ length answers) shards k r meets.judged_within (λ _. omega arith);
+      falls = meets.falls;
+      each = λ i before. let was : Meets m via ss shards lane lines answers i = meets.each i before in
+          let same : shown_in (judged_in shards k r) lane i ≡ shown_in shards lane i = judged_elsewhere shards k r lane i (elsewhere lane i r.place (λ _ e. absurd (omega arith))) in
+          record { line = was.line; answer = was.answer; line_is = was.line_is; answer_is = was.answer_is; path = rw same was.path };
+      under_way = meets.under_way;
+      judging = judged_here shards k r lane (length answers) below (here lane (length answers) r.place at) meets.judging;
+    }
+
+-- ---- along a shard the lines rise
+
+rise_more : (lane : ℕ) (rs : List ReplayEntry) (r : ReplayEntry) → LinesRise lane rs → AllByRecursion (λ s. s.place.lane ≡ lane → r.place.lane ≡ lane → s.place.line < r.place.line) rs → LinesRise lane (rs ++ r ∷ [])
+rise_more lane [] r rises below = (λ _. tt, tt)
+rise_more lane (s ∷ rs) r rises below = (
+  λ own. all_append (λ later. later.place.lane ≡ lane → s.place.line < later.place.line) rs (r ∷ []) (rises.0 own) (λ other. below.0 own other, tt),
+  rise_more lane rs r rises.1 below.1,
+)
+
+-- No step of the line under way was made yet, so that all of the lane's are of earlier lines.
+not_at : (lane line : ℕ) (p : Place) → is_at lane line p ≡ false → p.lane ≡ lane → p.line ≤ line → p.line < line
+not_at lane line p other own within = grind (arith, nat_tests)
+
+shown_before : (lane line : ℕ) (rs : List ReplayEntry) → shown rs lane line ≡ [] → AllByRecursion (λ r. r.place.lane ≡ lane → r.place.line ≤ line) rs → AllByRecursion (λ r. r.place.lane ≡ lane → r.place.line < line) rs
+shown_before lane line [] none within = tt
+shown_before lane line (r ∷ rs) none within =
+    let P : Bool → Type 0 = λ b. map judgement_of (if b then r ∷ filter (λ s. is_at lane line s.place) rs else filter (λ s. is_at lane line s.place) rs) ≡ [] in
+    elim (is_at lane line r.place) as (λ b. is_at lane line r.place ≡ b → P b → AllByRecursion (λ s. s.place.lane ≡ lane → s.place.line < line) (r ∷ rs)) [
+      | true ↦ λ at no. absurd (cc)
+      | false ↦ λ at no. (λ own. not_at lane line r.place at own (within.0 own), shown_before lane line rs no within.1)
+    ] refl none
+
+pub rise_judged : (shards : List (List ReplayEntry)) (k : ℕ) (r : ReplayEntry) (lane line : ℕ) → AllByRecursion (LinesRise lane) shards → AllByRecursion (AllByRecursion (λ s. s.place.lane ≡ lane → s.place.line ≤ line)) shards → shown_in shards lane line ≡ [] → r.place.line ≡ line → AllByRecursion (LinesRise lane) (judged_in shards k r)
+rise_judged [] k r lane line rises within none at = tt
+rise_judged (rs ∷ shards) zero r lane line rises within none at =
+    let empty = both_empty (shown rs lane line) (shown_in shards lane line) none in
+    (rise_more lane rs r rises.0 (all_weaker (λ s. s.place.lane ≡ lane → s.place.line < line) (λ s. s.place.lane ≡ lane → r.place.lane ≡ lane → s.place.line < r.place.line)
+        (λ s before own _. let b : s.place.line < line = before own in omega arith) rs (shown_before lane line rs empty.0 within.0)), rises.1)
+rise_judged (rs ∷ shards) (suc k) r lane line rises within none at =
+    let empty = both_empty (shown rs lane line) (shown_in shards lane line) none in
+    (rises.0, rise_judged shards k r lane line rises.1 within.1 empty.1 at)

@@ -3,3 +3,4 @@ pub mod Going
 pub mod Lanes
 pub mod Removing
 pub mod ReplayLemmas
+pub mod Counting
