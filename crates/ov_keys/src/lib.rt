@@ -2,5 +2,12 @@
 #![tactic(auto)]
 
 mod pair;
+mod record;
+mod slots;
 
 pub use pair::KeyPair;
+pub use record::KeyRec;
+pub use slots::Slots;
+
+#[cfg(test)]
+mod tests;
