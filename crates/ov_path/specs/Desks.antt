@@ -13,7 +13,10 @@ use Rattle.ov_model.specs.declared.reply.Reply.TheVariants as reply
 use Rattle.ov_model.specs.Tables.{Material}
 use Rattle.ov_model.specs.Events.{Event, Stepped, Step}
 use Rattle.ov_model.specs.Path.{SomeOwed, removed, spent_taken}
-use Rattle.ov_model.specs.Next.{is_killed}
+use Rattle.ov_model.specs.declared.draw.Drawn.TheVariants as drawn
+use Rattle.ov_model.specs.declared.stand.Stand.{Stand}
+use Rattle.ov_model.specs.declared.stand.Stand.TheVariants as stand
+use Rattle.ov_model.specs.Next.{is_killed, stand_of}
 
 -- The hold that is out: none, one on a peer and its key, or one on the peer alone, whose key was given
 -- back.
@@ -44,15 +47,28 @@ abbrev pub LeftPeer : Holding → ℕ → Type 0
 LeftPeer (PeerLeft h) peer = h.peer ≡ peer
 LeftPeer _ peer = ⊥
 
--- Which steps of the table a line may ask for: a command and a look-up where it holds nothing, the others
--- of the peer and the key that it holds. Releases are asked for otherwise.
+-- A line asks a counter and a replay window right after its look-up, and says that a key is spent right
+-- after its counter said so. A desk may rely on that: a hold draws once and is judged once.
+abbrev pub IsLooked : Stand → Type 0
+IsLooked (stand.Looked h) = ⊤
+IsLooked _ = ⊥
+
+abbrev pub IsSpent : Stand → Type 0
+IsSpent (stand.Drew h drawn.Spent) = ⊤
+IsSpent _ = ⊥
+
+abbrev pub IsFree : Shown → Type 0
+IsFree w = (w.hold ≡ NoHold) × (w.owing ≡ [])
+
+-- Which steps of the table a line may ask for: a command and a look-up where it holds and owes nothing,
+-- the others of the peer and the key that it holds. Releases are asked for otherwise.
 abbrev pub MayCall : Shown → Act → Type 0
-MayCall w (act.Do c) = w.hold ≡ NoHold
-MayCall w (act.TxLook a) = w.hold ≡ NoHold
-MayCall w (act.RxLook id key_id from) = w.hold ≡ NoHold
+MayCall w (act.Do c) = IsFree w
+MayCall w (act.TxLook a) = IsFree w
+MayCall w (act.RxLook id key_id from) = IsFree w
 MayCall w (act.Sent peer inner outer ping) = HoldsPeer w.hold peer
 MayCall w (act.Settle peer from kind inner outer) = HoldsPeer w.hold peer
-MayCall w (act.Spend peer key) = HoldsPeer w.hold peer × HoldsKey w.hold key
+MayCall w (act.Spend peer key) = HoldsPeer w.hold peer × HoldsKey w.hold key × IsSpent (stand_of w.events)
 MayCall w (act.Released peer) = ⊥
 MayCall w (act.KeyReleased key) = ⊥
 

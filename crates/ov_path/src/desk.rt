@@ -6,7 +6,8 @@ ghost use Rattle.ov_base.specs.declared.address.Addr.{Addr};
 ghost use Rattle.ov_model.specs.declared.hold.Owed.TheVariants as owed;
 ghost use Rattle.ov_model.specs.Tables.{Material};
 ghost use Rattle.ov_model.specs.Events.{Event, Stepped, Judged, Drew, GaveKey, GavePeer, release_of};
-ghost use Rattle.ov_path.specs.Desks.{Shown, Called, Grows, MayCall, HoldsKey, LeftPeer, with_event, peer_left, owed_if, first_owed, after_first, NoHold};
+ghost use Rattle.ov_model.specs.Next.{stand_of};
+ghost use Rattle.ov_path.specs.Desks.{Shown, Called, Grows, MayCall, HoldsKey, IsLooked, LeftPeer, with_event, peer_left, owed_if, first_owed, after_first, NoHold};
 
 use ov_base::{Addr, Memory};
 use ov_keys::KeyPair;
@@ -50,6 +51,7 @@ pub trait Desk {
     /// Asks the replay window of a held key about a packet id.
     fn replay(&mut self, place: Place, key: u32, id: u32, at: u32) -> Result<Verdict, Memory>
         requires held { HoldsKey (shown self.old).hold key }
+        requires looked { IsLooked (stand_of (shown self.old).events) }
         ensures ok { IfOk result (λ v. shown self.new ≡ with_event (shown self.old) (Judged (record { place = place; key = key; id = id; at = at; verdict = v }))) }
         ensures done { IfOk result (λ v. does self.old (Judged (record { place = place; key = key; id = id; at = at; verdict = v })) self.new) }
         ensures err { OnErr result (shown self.new ≡ shown self.old) }
@@ -59,6 +61,7 @@ pub trait Desk {
     /// Asks the counter of a held key for a packet id.
     fn draw(&mut self, key: u32) -> Drawn
         requires held { HoldsKey (shown self.old).hold key }
+        requires looked { IsLooked (stand_of (shown self.old).events) }
         ensures event { shown self.new ≡ with_event (shown self.old) (Drew key result) }
         ensures done { does self.old (Drew key result) self.new }
         ensures grows { Grows (material self.old) (material self.new) }
