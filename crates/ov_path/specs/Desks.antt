@@ -1,0 +1,160 @@
+-- What a desk shows of the line that stands at it, and what each of its calls makes of that.
+use Rattle.std.specs.Prelude.{ℕ, ◌≡◌, ⊤, List, [], ◌∷◌, ◌++◌, Option, Some, None}
+use Rattle.ov_model.specs.declared.place.Place.{Place}
+use Rattle.ov_model.specs.declared.act.Act.{Act}
+use Rattle.ov_model.specs.declared.act.Act.TheVariants as act
+use Rattle.ov_model.specs.declared.act.Call.{Call}
+use Rattle.ov_model.specs.declared.hold.Given.{Given}
+use Rattle.ov_model.specs.declared.hold.Given.TheVariants.{More, Last}
+use Rattle.ov_model.specs.declared.hold.Owed.{Owed}
+use Rattle.ov_model.specs.declared.reply.HoldView.{HoldView}
+use Rattle.ov_model.specs.declared.reply.Reply.{Reply}
+use Rattle.ov_model.specs.declared.reply.Reply.TheVariants as reply
+use Rattle.ov_model.specs.Tables.{Material}
+use Rattle.ov_model.specs.Events.{Event, Stepped, Step}
+use Rattle.ov_model.specs.Path.{SomeOwed, removed, spent_taken}
+use Rattle.ov_model.specs.declared.draw.Drawn.TheVariants as drawn
+use Rattle.ov_model.specs.declared.stand.Stand.{Stand}
+use Rattle.ov_model.specs.declared.stand.Stand.TheVariants as stand
+use Rattle.ov_model.specs.Next.{is_killed, stand_of}
+
+-- The hold that is out: none, one on a peer and its key, or one on the peer alone, whose key was given
+-- back.
+pub data Holding : Type 0 where
+  NoHold : Holding
+  Both : HoldView → Holding
+  PeerLeft : HoldView → Holding
+
+-- The events of the present line, the hold that is out, and the releases that are owed, in the order of
+-- their becoming so.
+pub record Shown : Type 0 where
+  pub events : List Event
+  pub hold : Holding
+  pub owing : List Owed
+
+-- ---- conditions
+
+abbrev pub HoldsKey : Holding → ℕ → Type 0
+HoldsKey (Both h) key = h.key ≡ key
+HoldsKey _ key = ⊥
+
+abbrev pub HoldsPeer : Holding → ℕ → Type 0
+HoldsPeer (Both h) peer = h.peer ≡ peer
+HoldsPeer _ peer = ⊥
+
+-- The peer is still held, and its key was given back.
+abbrev pub LeftPeer : Holding → ℕ → Type 0
+LeftPeer (PeerLeft h) peer = h.peer ≡ peer
+LeftPeer _ peer = ⊥
+
+-- A line asks a counter and a replay window right after its look-up, and says that a key is spent right
+-- after its counter said so. A desk may rely on that: a hold draws once and is judged once.
+abbrev pub IsLooked : Stand → Type 0
+IsLooked (stand.Looked h) = ⊤
+IsLooked _ = ⊥
+
+abbrev pub IsSpent : Stand → Type 0
+IsSpent (stand.Drew h drawn.Spent) = ⊤
+IsSpent _ = ⊥
+
+abbrev pub IsFree : Shown → Type 0
+IsFree w = (w.hold ≡ NoHold) × (w.owing ≡ [])
+
+-- Which steps of the table a line may ask for: a command and a look-up where it holds and owes nothing,
+-- the others of the peer and the key that it holds. Releases are asked for otherwise.
+abbrev pub MayCall : Shown → Act → Type 0
+MayCall w (act.Do c) = IsFree w
+MayCall w (act.TxLook a) = IsFree w
+MayCall w (act.RxLook id key_id from) = IsFree w
+MayCall w (act.Sent peer inner outer ping) = HoldsPeer w.hold peer
+MayCall w (act.Settle peer from kind inner outer) = HoldsPeer w.hold peer
+MayCall w (act.Spend peer key) = HoldsPeer w.hold peer × HoldsKey w.hold key × IsSpent (stand_of w.events)
+MayCall w (act.Released peer) = ⊥
+MayCall w (act.KeyReleased key) = ⊥
+
+-- The first release that is owed.
+abbrev pub first_owed : List Owed → Option Owed
+first_owed [] = None
+first_owed (o ∷ os) = Some o
+
+abbrev pub after_first : List Owed → List Owed
+after_first [] = []
+after_first (o ∷ os) = os
+
+-- ---- what a call does
+
+-- One event more, and nothing else.
+abbrev pub with_event : Shown → Event → Shown
+with_event w e = record { events = w.events ++ e ∷ []; hold = w.hold; owing = w.owing }
+
+-- After the hold on the key was given back, that on the peer is left.
+abbrev pub peer_left : Holding → Holding
+peer_left (Both h) = PeerLeft h
+peer_left other = other
+
+-- Whoever gave back the last hold owes the release.
+abbrev pub owed_if : Given → Owed → List Owed
+owed_if More o = []
+owed_if Last o = o ∷ []
+
+-- A look-up that found its peer and key holds them.
+abbrev pub held_after : Holding → Reply → Holding
+held_after before (reply.Hold h) = Both h
+held_after before _ = before
+
+-- Which replies a step has. Those of the commands are the table's business.
+abbrev pub IsLookReply : Reply → Type 0
+IsLookReply (reply.Hold h) = ⊤
+IsLookReply reply.NoPeer = ⊤
+IsLookReply reply.NoKey = ⊤
+IsLookReply _ = ⊥
+
+abbrev pub IsSettledReply : Reply → Type 0
+IsSettledReply (reply.Settled s) = ⊤
+IsSettledReply _ = ⊥
+
+abbrev pub IsSpendReply : Reply → Type 0
+IsSpendReply reply.Killed = ⊤
+IsSpendReply reply.AlreadyGone = ⊤
+IsSpendReply _ = ⊥
+
+abbrev pub IsReplyOf : Act → Reply → Type 0
+IsReplyOf (act.Do c) r = ⊤
+IsReplyOf (act.TxLook a) r = IsLookReply r
+IsReplyOf (act.RxLook id key_id from) r = IsLookReply r
+IsReplyOf (act.Sent peer inner outer ping) r = r ≡ reply.Done
+IsReplyOf (act.Settle peer from kind inner outer) r = IsSettledReply r
+IsReplyOf (act.Spend peer key) r = IsSpendReply r
+IsReplyOf (act.Released peer) r = r ≡ reply.Released peer
+IsReplyOf (act.KeyReleased key) r = r ≡ reply.KeyReleased key
+
+-- Which keys a step took out of their slots, and which releases joined what is owed. After a command
+-- some of the keys and some of the peers that it removed; after another step none, since what it takes is
+-- held.
+abbrev pub Joins : Act → Reply → (taken : List ℕ) → (joined : List Owed) → Type 0
+Joins (act.Do c) r taken joined = SomeOwed taken (removed r) joined
+Joins (act.Spend peer key) r taken joined = (taken ≡ spent_taken (is_killed r) key) × (joined ≡ [])
+Joins _ r taken joined = (taken ≡ []) × (joined ≡ [])
+
+-- The key of a hold has its material.
+abbrev pub HasMaterial : (ℕ → Option Material) → Reply → Type 0
+HasMaterial material (reply.Hold h) = (m : Material) × (material h.key ≡ Some m)
+HasMaterial material _ = ⊤
+
+abbrev pub stepped_as : Place → Call → Reply → List ℕ → Event
+stepped_as place call r taken = Stepped (record { entry = record { place = place; call = call; reply = r }; taken = taken })
+
+-- A step of the table was made, with this reply. `does` is what the desk itself made of the event, and
+-- `material` what it then has of the keys.
+pub record Called {D : Type 0} (does : Event → D → Type 0) (old : Shown) (place : Place) (call : Call) (r : Reply) (material : ℕ → Option Material) (new : Shown) (desk : D) : Type 0 where
+  pub taken : List ℕ
+  pub joined : List Owed
+  pub fits : IsReplyOf call.act r
+  pub joins : Joins call.act r taken joined
+  pub has : HasMaterial material r
+  pub new_is : new ≡ record { events = old.events ++ stepped_as place call r taken ∷ []; hold = held_after old.hold r; owing = old.owing ++ joined }
+  pub done : does (stepped_as place call r taken) desk
+
+-- What a desk has of the keys stays, and may become more.
+abbrev pub Grows : (old new : ℕ → Option Material) → Type 0
+Grows old new = (key : ℕ) (m : Material) → old key ≡ Some m → new key ≡ Some m
