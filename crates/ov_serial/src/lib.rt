@@ -1,0 +1,4 @@
+//! Lines that run one after the other: the desk at which each stands in turn, and the report of a script.
+#![tactic(auto)]
+
+mod past;
