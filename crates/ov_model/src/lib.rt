@@ -8,6 +8,7 @@ pub mod draw;
 pub mod entry;
 pub mod hold;
 pub mod ident;
+pub mod laws;
 pub mod line;
 pub mod netlink;
 pub mod note;
