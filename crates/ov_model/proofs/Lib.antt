@@ -8,3 +8,4 @@ pub mod Times
 pub mod KeysTaken
 pub mod Freed
 pub mod ReplayLemmas
+pub mod ReplayLaw
