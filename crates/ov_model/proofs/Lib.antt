@@ -4,5 +4,9 @@ pub mod Lanes
 pub mod Removing
 pub mod Shapes
 pub mod Noted
+pub mod Times
+pub mod KeysTaken
+pub mod Freed
 pub mod ReplayLemmas
 pub mod Counting
+pub mod ReplayLaw

@@ -1,8 +1,8 @@
 -- Each removed peer of a run is told of by its note, and no serial is removed twice.
-use Rattle.std.proofs.Common.{ℕ, ◌≡◌, ◌≢◌, ◌+◌, ◌<◌, ◌≤◌, zero, suc, List, [], ◌∷◌, ◌++◌, refl, ap, subst, ◌∙◌, Bool, true, false, arith, append-nil, if◌then◌else◌, ◌==◌, ◌&&◌, nat_le, nat_eq, inl, inr, ◌⊎◌}
-use Rattle.std.specs.Prelude.{map, filter, Option, Some, None, is_none, is_some, position, remove, slice_get}
+use Rattle.std.proofs.Common.{ℕ, ◌≡◌, ◌≢◌, ◌+◌, ◌<◌, ◌≤◌, zero, suc, List, [], ◌∷◌, ◌++◌, refl, ap, subst, ◌∙◌, false, arith, append-nil, if◌then◌else◌, ◌==◌, nat_eq, inl, inr}
+use Rattle.std.specs.Prelude.{map, filter, Option, Some, remove, slice_get}
 use Rattle.std.specs.Option.{option_or}
-use Rattle.std.specs.List.{AllByRecursion, IsDistinct, list_any}
+use Rattle.std.specs.List.{AllByRecursion, IsDistinct}
 use Rattle.std.proofs.lemmas.Bool.{eq-eqb, ne_eqb}
 use Rattle.std.proofs.lemmas.Bool.Decides.{nat_tests}
 use Rattle.std.proofs.lemmas.List.{map-append}

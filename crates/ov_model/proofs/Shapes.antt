@@ -1,5 +1,5 @@
 -- What a step does to the serials and ids of the live peers: it keeps them, makes one, or removes one.
-use Rattle.std.proofs.Common.{ℕ, ◌≡◌, ◌+◌, zero, suc, List, [], ◌∷◌, ◌++◌, refl, sym, ap, ◌∙◌, subst, Bool, true, false, if◌then◌else◌, ◌==◌, ◌&&◌, nat_le, inl, inr, ◌⊎◌}
+use Rattle.std.proofs.Common.{ℕ, ◌≡◌, ◌+◌, zero, suc, List, [], ◌∷◌, ◌++◌, refl, ap, ◌∙◌, Bool, true, false, if◌then◌else◌, ◌==◌, ◌&&◌, nat_le, inl, inr, ◌⊎◌}
 use Rattle.std.specs.Prelude.{map, filter, Option, Some, None, is_none, is_some, position, remove, slice_get, slice_set}
 use Rattle.std.specs.List.{list_any}
 use Rattle.std.proofs.lemmas.List.{map-append}
@@ -14,14 +14,13 @@ use Rattle.ov_model.specs.declared.act.Act.{Act}
 use Rattle.ov_model.specs.declared.act.Act.TheVariants as act
 use Rattle.ov_model.specs.declared.entry.Entry.{Entry}
 use Rattle.ov_model.specs.declared.note.NoteBody.TheVariants as note
-use Rattle.ov_model.specs.declared.reply.Reply.{Reply}
 use Rattle.ov_model.specs.declared.reply.Reply.TheVariants as reply
 use Rattle.ov_model.specs.declared.reply.Errno.{Errno}
 use Rattle.ov_model.specs.declared.reply.Errno.TheVariants.{NoEntry, Exists, Invalid, NoSpace}
 use Rattle.ov_model.specs.declared.reply.Settled.{Settled}
 use Rattle.ov_model.specs.declared.reply.Settled.TheVariants as settled
 use Rattle.ov_model.specs.Tables.{Peer, Key, Table, without_key, by_id, by_remote, by_vpn, by_key_id, by_key, with_slot, shares_vpn}
-use Rattle.ov_model.specs.Step.{Outcome, replied, refused, peer_of, peer_new, peer_new_at, peer_new_with, peer_get, peer_get_of, remove_peer, removed_at, removed_found, key_of_conf, key_made, key_new_found, key_new_place, key_new, key_found, tx_found, tx_look, rx_peer, rx_found, rx_look, sent_peer, sent_dying, sent_not_live, sent_live, sent_at, sent, received_peer, floated, settled_peer, settled_as, settle_dying, settle_not_live, settle_live, settle_at, settle, spent_key, spent_found, spent_at, spend, released, released_at, key_released, key_released_at, act_step, step}
+use Rattle.ov_model.specs.Step.{Outcome, refused, peer_of, peer_new, peer_new_at, peer_new_with, peer_get, peer_get_of, remove_peer, removed_at, removed_found, key_of_conf, key_made, key_new_found, key_new_place, key_new, key_found, tx_found, tx_look, rx_peer, rx_found, rx_look, sent_peer, sent_dying, sent_not_live, sent_live, sent_at, sent, received_peer, floated, settled_peer, settled_as, settle_dying, settle_not_live, settle_live, settle_at, settle, spent_key, spent_found, spent_at, spend, released, released_at, key_released, key_released_at, act_step, step}
 use Rattle.ov_model.specs.Path.{removed}
 use Rattle.ov_model.specs.Removals.{id_by, reason_of, is_peer_del}
 

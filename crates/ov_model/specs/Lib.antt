@@ -11,3 +11,4 @@ pub mod Replay
 pub mod Removals
 pub mod Keys
 pub mod Legal
+pub mod Laws

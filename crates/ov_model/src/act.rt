@@ -45,7 +45,10 @@ pub enum Act {
         outer: u32,
     },
     /// A held key of a held peer has given its last packet id.
-    Spend { peer: u32, key: u32 },
+    Spend {
+        peer: u32,
+        key: u32,
+    },
     /// A removed peer is let go: nobody holds it any more.
     Released(u32),
     /// A key that was taken out of its slot is let go: nobody holds it any more.

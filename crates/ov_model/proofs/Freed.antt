@@ -1,0 +1,189 @@
+-- A run without a dying peer or a retired key at its end let each of them go exactly once.
+use Rattle.std.proofs.Common.{ℕ, ◌≡◌, ◌+◌, ◌<◌, ◌≤◌, ◌↔◌, suc, List, [], ◌∷◌, refl, sym, ap, ◌∙◌, length, Bool, true, false, arith, ◌==◌, ◌||◌, inl, inr}
+use Rattle.std.specs.Prelude.{map, Option, Some, None, position, remove}
+use Rattle.std.specs.List.{list_any, position_or_len}
+use Rattle.std.proofs.lemmas.Bool.{cases_eq, cases_lt, eq-eqb, ne_eqb, lt-ltb}
+use Rattle.ov_model.specs.declared.act.Act.{Act}
+use Rattle.ov_model.specs.declared.act.Act.TheVariants as act
+use Rattle.ov_model.specs.declared.entry.Entry.{Entry}
+use Rattle.ov_model.specs.Tables.{Peer, Key, Table, empty_table, key_serials}
+use Rattle.ov_model.specs.Step.{Outcome, tx_look, rx_look, sent, settle, spend, released, released_at, key_released, key_released_at, command_step, act_step, step, may_act}
+use Rattle.ov_model.specs.Runs.{Follows, IsRun, table_after, last_table}
+use Rattle.ov_model.specs.Events.{steps_after, steps_of}
+use Rattle.ov_model.specs.Path.{removed, spent_reply}
+use Rattle.ov_model.specs.Removals.{removed_in, AllReleased, released_by, released_in, key_released_by, keys_released_in, keys_taken_in, times, EachReleasedOnce}
+use Rattle.ov_model.proofs.Removing.{serials, Joins, command_joins, Keeps, tx_look_keeps, rx_look_keeps, sent_keeps, settle_keeps, Spends, spend_spends}
+use Rattle.ov_model.proofs.Noted.{removed_once}
+use Rattle.ov_model.proofs.Times.{times-append, times_first, times_distinct}
+use Rattle.ov_model.proofs.KeysTaken.{taken_once}
+
+-- ---- what is let go is taken out of its list
+
+abbrev is_of : {X : Type 0} → (X → ℕ) → ℕ → X → Bool
+is_of f serial p = f p == serial
+
+later_any : (b c : Bool) → b ≡ false → (b || c) ≡ true → c ≡ true
+later_any b c first any = sym (ap (λ d. d || c) first) ∙ any
+
+found_within : {X : Type 0} (f : X → ℕ) (serial : ℕ) (ps : List X) → list_any (is_of f serial) ps ≡ true → position_or_len (is_of f serial) ps < length ps
+found_within f serial [] any = cc
+found_within f serial (p ∷ ps) any =
+    elim (cases_eq (f p) serial) [
+      | inl same ↦ rw (eq-eqb (f p) serial same) (omega arith)
+      | inr other ↦
+          let later : position_or_len (is_of f serial) ps < length ps = found_within f serial ps (later_any (f p == serial) _ (ne_eqb (f p) serial other) any) in
+          rw (ne_eqb (f p) serial other) (omega arith)
+    ]
+
+found_counts : {X : Type 0} (f : X → ℕ) (x serial : ℕ) (ps : List X) → list_any (is_of f serial) ps ≡ true → times x (map f (remove ps (position_or_len (is_of f serial) ps))) + times x (serial ∷ []) ≡ times x (map f ps)
+found_counts f x serial [] any = cc
+found_counts f x serial (p ∷ ps) any =
+    elim (cases_eq (f p) serial) [
+      | inl same ↦
+          let first : times x (f p ∷ map f ps) ≡ times x (serial ∷ []) + times x (map f ps) = rw same (times_first x serial (map f ps)) in
+          rw (eq-eqb (f p) serial same, first) (omega arith)
+      | inr other ↦
+          let rest : List ℕ = map f (remove ps (position_or_len (is_of f serial) ps)) in
+          let later : times x rest + times x (serial ∷ []) ≡ times x (map f ps) = found_counts f x serial ps (later_any (f p == serial) _ (ne_eqb (f p) serial other) any) in
+          let left : times x (f p ∷ rest) ≡ times x (f p ∷ []) + times x rest = times_first x (f p) rest in
+          let right : times x (f p ∷ map f ps) ≡ times x (f p ∷ []) + times x (map f ps) = times_first x (f p) (map f ps) in
+          let next : position_or_len (is_of f serial) (p ∷ ps) ≡ suc (position_or_len (is_of f serial) ps) = rw (ne_eqb (f p) serial other) (omega arith) in
+          rw (next, left, right) (omega arith)
+    ]
+
+-- ---- the balance of removals and releases
+
+-- Of each serial: what was dying or retired and what joined is what is so still and what was let go.
+record Balance (x : ℕ) (t : Table) (a : Act) (o : Outcome) : Type 0 where
+  peers : times x (serials o.after.dying) + times x (released_by a) ≡ times x (serials t.dying) + times x (removed o.reply)
+  keys : times x (key_serials o.after.retired) + times x (key_released_by a) ≡ times x (key_serials t.retired) + times x o.taken
+
+keeps_balance : (x : ℕ) (t : Table) (a : Act) (o : Outcome) → released_by a ≡ [] → key_released_by a ≡ [] → Keeps t o → Balance x t a o
+keeps_balance x t a o no_peer no_key keeps = record {
+  peers = rw (no_peer, keeps.dying, keeps.removes_none) refl;
+  keys = rw (no_key, keeps.retired, keeps.taken) refl;
+}
+
+released_at_keys : (x : ℕ) (t : Table) (now serial : ℕ) (i : Option ℕ) → times x (key_serials (released_at t now serial i).after.retired) + times x [] ≡ times x (key_serials t.retired) + times x (released_at t now serial i).taken
+released_at_keys x t now serial None = refl
+released_at_keys x t now serial (Some i) = refl
+
+released_at_removes_none : (t : Table) (now serial : ℕ) (i : Option ℕ) → removed (released_at t now serial i).reply ≡ []
+released_at_removes_none t now serial None = refl
+released_at_removes_none t now serial (Some i) = refl
+
+released_balance : (x : ℕ) (t : Table) (now serial : ℕ) → list_any (λ p. p.serial == serial) t.dying ≡ true → Balance x t (act.Released serial) (released t now serial)
+unfolding released
+released_balance x t now serial any =
+    let f : Peer → ℕ = λ p. p.serial in
+    let place : position (λ p. p.serial == serial) t.dying ≡ Some (position_or_len (is_of f serial) t.dying) = rw (lt-ltb _ _ (found_within f serial t.dying any)) refl in
+    let kept : removed (released t now serial).reply ≡ [] = released_at_removes_none t now serial _ in
+    let out : times x (serials (released t now serial).after.dying) + times x (serial ∷ []) ≡ times x (serials t.dying) = rw place (found_counts f x serial t.dying any) in
+    record {
+      peers = rw kept (omega arith);
+      keys = released_at_keys x t now serial _;
+    }
+
+key_released_at_peers : (x : ℕ) (t : Table) (now serial : ℕ) (i : Option ℕ) → times x (serials (key_released_at t now serial i).after.dying) + times x [] ≡ times x (serials t.dying) + times x (removed (key_released_at t now serial i).reply)
+key_released_at_peers x t now serial None = refl
+key_released_at_peers x t now serial (Some i) = refl
+
+key_released_at_takes_none : (t : Table) (now serial : ℕ) (i : Option ℕ) → (key_released_at t now serial i).taken ≡ []
+key_released_at_takes_none t now serial None = refl
+key_released_at_takes_none t now serial (Some i) = refl
+
+key_released_balance : (x : ℕ) (t : Table) (now serial : ℕ) → list_any (λ k. k.serial == serial) t.retired ≡ true → Balance x t (act.KeyReleased serial) (key_released t now serial)
+unfolding key_released
+key_released_balance x t now serial any =
+    let f : Key → ℕ = λ k. k.serial in
+    let place : position (λ k. k.serial == serial) t.retired ≡ Some (position_or_len (is_of f serial) t.retired) = rw (lt-ltb _ _ (found_within f serial t.retired any)) refl in
+    let kept : (key_released t now serial).taken ≡ [] = key_released_at_takes_none t now serial _ in
+    let out : times x (key_serials (key_released t now serial).after.retired) + times x (serial ∷ []) ≡ times x (key_serials t.retired) = rw place (found_counts f x serial t.retired any) in
+    record {
+      peers = key_released_at_peers x t now serial _;
+      keys = rw kept (omega arith);
+    }
+
+spent_removes_none : (killed : Bool) → removed (spent_reply killed) ≡ []
+spent_removes_none true = refl
+spent_removes_none false = refl
+
+act_balance : (x : ℕ) (t : Table) (now : ℕ) (a : Act) → may_act t a ≡ true → Balance x t a (act_step t now a)
+act_balance x t now (act.Do c) may =
+    let o : Outcome = command_step t now c in
+    let joins : Joins t o = command_joins t now c in
+    let joined : times x (serials o.after.dying) ≡ times x (serials t.dying) + times x (removed o.reply) = rw joins.joined (times-append x (serials t.dying) (removed o.reply)) in
+    let keys_joined : times x (key_serials o.after.retired) ≡ times x (key_serials t.retired) + times x o.taken = rw joins.keys_joined (times-append x (key_serials t.retired) o.taken) in
+    record { peers = omega arith; keys = omega arith }
+act_balance x t now (act.TxLook a) may = keeps_balance x t (act.TxLook a) (tx_look t now a) refl refl (tx_look_keeps t now a)
+act_balance x t now (act.RxLook id key_id from) may = keeps_balance x t (act.RxLook id key_id from) (rx_look t now id key_id from) refl refl (rx_look_keeps t now id key_id from)
+act_balance x t now (act.Sent peer inner outer ping) may = keeps_balance x t (act.Sent peer inner outer ping) (sent t now peer inner outer ping) refl refl (sent_keeps t now peer inner outer ping)
+act_balance x t now (act.Settle peer from k inner outer) may = keeps_balance x t (act.Settle peer from k inner outer) (settle t now peer from k inner outer) refl refl (settle_keeps t now peer from k inner outer)
+act_balance x t now (act.Spend peer key) may =
+    let o : Outcome = spend t now peer key in
+    let spends : Spends t key o = spend_spends t now peer key in
+    let joined : times x (key_serials o.after.retired) ≡ times x (key_serials t.retired) + times x o.taken = rw spends.keys_joined (times-append x (key_serials t.retired) o.taken) in
+    record { peers = rw (spends.dying, spends.reply_is, spent_removes_none spends.killed) refl; keys = omega arith }
+act_balance x t now (act.Released serial) may = released_balance x t now serial may
+act_balance x t now (act.KeyReleased serial) may = key_released_balance x t now serial may
+
+run_balance : (x : ℕ) (t : Table) (es : List Entry) → Follows t es → times x (released_in es) + times x (serials (table_after t es).dying) ≡ times x (serials t.dying) + times x (removed_in es)
+run_balance x t [] follows = omega arith
+run_balance x t (e ∷ es) follows =
+    let o : Outcome = step t e.call in
+    let here : times x (serials o.after.dying) + times x (released_by e.call.act) ≡ times x (serials t.dying) + times x (removed e.reply) = rw (← follows.1) (act_balance x t _ e.call.act follows.0).peers in
+    let later : times x (released_in es) + times x (serials (table_after o.after es).dying) ≡ times x (serials o.after.dying) + times x (removed_in es) = run_balance x o.after es follows.2 in
+    let freed : times x (released_in (e ∷ es)) ≡ times x (released_by e.call.act) + times x (released_in es) = times-append x (released_by e.call.act) (released_in es) in
+    let gone : times x (removed_in (e ∷ es)) ≡ times x (removed e.reply) + times x (removed_in es) = times-append x (removed e.reply) (removed_in es) in
+    rw (freed, gone) (omega arith)
+
+keys_balance : (x : ℕ) (t : Table) (es : List Entry) → Follows t es → times x (keys_released_in es) + times x (key_serials (table_after t es).retired) ≡ times x (key_serials t.retired) + times x (keys_taken_in (steps_after t es))
+keys_balance x t [] follows = omega arith
+keys_balance x t (e ∷ es) follows =
+    let o : Outcome = step t e.call in
+    let here : times x (key_serials o.after.retired) + times x (key_released_by e.call.act) ≡ times x (key_serials t.retired) + times x o.taken = (act_balance x t _ e.call.act follows.0).keys in
+    let later : times x (keys_released_in es) + times x (key_serials (table_after o.after es).retired) ≡ times x (key_serials o.after.retired) + times x (keys_taken_in (steps_after o.after es)) = keys_balance x o.after es follows.2 in
+    let freed : times x (keys_released_in (e ∷ es)) ≡ times x (key_released_by e.call.act) + times x (keys_released_in es) = times-append x (key_released_by e.call.act) (keys_released_in es) in
+    let gone : times x (keys_taken_in (steps_after t (e ∷ es))) ≡ times x o.taken + times x (keys_taken_in (steps_after o.after es)) = times-append x o.taken (keys_taken_in (steps_after o.after es)) in
+    rw (freed, gone) (omega arith)
+
+nobody : {X : Type 0} (f : X → ℕ) (ps : List X) → ((x : ℕ) → times x (map f ps) ≡ 0) → ps ≡ []
+nobody f [] none = refl
+nobody f (p ∷ ps) none =
+    let first : times (f p) (map f (p ∷ ps)) ≡ 1 + times (f p) (map f ps) = rw (eq-eqb (f p) (f p) refl) (omega arith) in
+    absurd (let zero_times = none (f p) in omega arith)
+
+-- Where each is removed at most once and what is left balances, nothing is left exactly where each was let go once.
+once_each : (gone freed left : ℕ → ℕ) → ((x : ℕ) → freed x + left x ≡ 0 + gone x) → ((x : ℕ) → gone x ≤ 1) → ((x : ℕ) → left x ≡ 0) → (x : ℕ) → 0 < gone x → freed x ≡ 1
+once_each gone freed left balance once none x was = let whole = balance x in let most = once x in let zero_left = none x in omega arith
+
+none_left : (gone freed left : ℕ → ℕ) → ((x : ℕ) → freed x + left x ≡ 0 + gone x) → ((x : ℕ) → gone x ≤ 1) → ((x : ℕ) → 0 < gone x → freed x ≡ 1) → (x : ℕ) → left x ≡ 0
+none_left gone freed left balance once each x =
+    let whole = balance x in let most = once x in
+    elim (cases_lt 0 (gone x)) [
+      | inl was ↦ let one = each x was in omega arith
+      | inr never ↦ omega arith
+    ]
+
+-- A run ends without a dying peer and without a retired key exactly where each was let go exactly once.
+pub all_released : (journal : List Entry) → IsRun journal → AllReleased journal ↔ EachReleasedOnce journal
+all_released journal run =
+    let gone : ℕ → ℕ = λ x. times x (removed_in journal) in
+    let freed : ℕ → ℕ = λ x. times x (released_in journal) in
+    let left : ℕ → ℕ = λ x. times x (serials (last_table journal).dying) in
+    let taken : ℕ → ℕ = λ x. times x (keys_taken_in (steps_of journal)) in
+    let keys_freed : ℕ → ℕ = λ x. times x (keys_released_in journal) in
+    let keys_left : ℕ → ℕ = λ x. times x (key_serials (last_table journal).retired) in
+    let balance : (x : ℕ) → freed x + left x ≡ 0 + gone x = λ x. run_balance x empty_table journal run in
+    let keys_even : (x : ℕ) → keys_freed x + keys_left x ≡ 0 + taken x = λ x. keys_balance x empty_table journal run in
+    let once : (x : ℕ) → gone x ≤ 1 = λ x. times_distinct x (removed_in journal) (removed_once empty_table journal run tt tt) in
+    let keys_once : (x : ℕ) → taken x ≤ 1 = λ x. taken_once x journal run in (
+      λ (none : AllReleased journal). record {
+        peers = once_each gone freed left balance once (λ x. rw none.peers refl);
+        keys = once_each taken keys_freed keys_left keys_even keys_once (λ x. rw none.keys refl);
+      },
+      λ (each : EachReleasedOnce journal). record {
+        peers = nobody (λ (p : Peer). p.serial) (last_table journal).dying (none_left gone freed left balance once each.peers);
+        keys = nobody (λ (k : Key). k.serial) (last_table journal).retired (none_left taken keys_freed keys_left keys_even keys_once each.keys);
+      },
+    )
