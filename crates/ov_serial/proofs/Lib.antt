@@ -1,1 +1,5 @@
 pub mod Marks
+pub mod Acts
+pub mod Installed
+pub mod Calling
+pub mod Steps

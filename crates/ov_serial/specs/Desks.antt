@@ -23,7 +23,9 @@ use Rattle.ov_model.specs.Next.{stand_of}
 use Rattle.ov_model.specs.Keys.{key_of}
 use Rattle.ov_model.specs.Replay.{judged}
 use Rattle.ov_replay.specs.History.{History}
-use Rattle.ov_path.specs.Desks.{Shown, Holding, NoHold, Both, PeerLeft}
+use Rattle.ov_model.specs.declared.reply.Reply.{Reply}
+use Rattle.ov_model.proofs.KeysTaken.{key_made_by}
+use Rattle.ov_path.specs.Desks.{Shown, Holding, NoHold, Both, PeerLeft, held_after}
 use Rattle.ov_table.specs.Recorded.{Recorded, stepped, entry_of, IsTold}
 use Rattle.ov_serial.specs.declared.past.Mark.{Mark}
 use Rattle.ov_serial.specs.declared.past.Mark.TheVariants as mark
@@ -149,6 +151,18 @@ pub record Happened (d : Serial) (event : Event) (e : Serial) : Type 0 where
   pub makes : Makes event d e
   pub first : e.first ≡ d.first
   pub start : e.start ≡ d.start
+
+-- ---- what each call leaves
+
+-- After a step of the table: the counter of a key that was made, the hold that was taken, a mark.
+abbrev pub after_step : Serial → Place → Call → Reply → Serial
+after_step d place call r = record d {
+  table = stepped d.table place call;
+  next = d.next ++ map (λ _. d.first) (key_made_by call.act r);
+  marks = d.marks ++ mark.Stepped ∷ [];
+  room = 8;
+  hold = held_after d.hold call.act r;
+}
 
 -- ---- what it keeps true
 

@@ -1,0 +1,229 @@
+-- What a step of the table makes of the desk: one lemma for each kind of act.
+use Rattle.std.proofs.Common.{ℕ, ◌≡◌, ◌+◌, ◌≤◌, ◌<◌, ◌⊎◌, inl, inr, List, [], ◌∷◌, ◌++◌, length, get_or, refl, sym, ◌∙◌, ap, subst, arith, append-nil, length-append, Bool, true, false, ◌||◌, ◌&&◌}
+use Rattle.std.specs.Prelude.{map, max, Option, Some, None, ⊤, IsSome}
+use Rattle.std.specs.List.{list_any}
+use Rattle.std.proofs.lemmas.Bool.{or_left, or_right}
+use Rattle.std.proofs.lemmas.List.{length-map}
+use Rattle.ov_base.specs.declared.address.Addr.{Addr}
+use Rattle.ov_base.specs.declared.address.Transport.{Transport}
+use Rattle.ov_model.specs.declared.ident.PeerId.{PeerId}
+use Rattle.ov_model.specs.declared.ident.KeyId.{KeyId}
+use Rattle.ov_model.specs.declared.place.Place.{Place}
+use Rattle.ov_model.specs.declared.command.Command.{Command}
+use Rattle.ov_model.specs.declared.act.Act.{Act}
+use Rattle.ov_model.specs.declared.act.Act.TheVariants as act
+use Rattle.ov_model.specs.declared.act.Call.{Call}
+use Rattle.ov_model.specs.declared.act.InnerKind.{InnerKind}
+use Rattle.ov_model.specs.declared.draw.Drawn.{Drawn}
+use Rattle.ov_model.specs.declared.draw.Drawn.TheVariants as drawn
+use Rattle.ov_model.specs.declared.hold.Owed.{Owed}
+use Rattle.ov_model.specs.declared.hold.Owed.TheVariants as owed
+use Rattle.ov_model.specs.declared.reply.HoldView.{HoldView}
+use Rattle.ov_model.specs.declared.reply.Reply.{Reply}
+use Rattle.ov_model.specs.declared.reply.Reply.TheVariants as reply
+use Rattle.ov_model.specs.declared.stand.Stand.{Stand}
+use Rattle.ov_model.specs.declared.stand.Stand.TheVariants as stand
+use Rattle.ov_model.specs.declared.stand.Use.TheVariants as used
+use Rattle.ov_model.specs.Tables.{Peer, Table, Material, key_serials}
+use Rattle.ov_model.specs.Step.{Outcome, step, act_step, may_act, is_there, has_key}
+use Rattle.ov_model.specs.Runs.{last_table}
+use Rattle.ov_model.specs.Events.{Event, Stepped, Step, steps_of}
+use Rattle.ov_model.specs.Path.{SomeOwed, removed, spent_taken, spent_reply}
+use Rattle.ov_model.specs.Next.{see, see_all, stand_of, is_killed}
+use Rattle.ov_model.specs.Keys.{key_of}
+use Rattle.ov_model.proofs.Removing.{serials, some_all, Joins, command_joins, Keeps, tx_look_keeps, rx_look_keeps, sent_keeps, settle_keeps, Spends, spend_spends}
+use Rattle.ov_model.proofs.KeysTaken.{key_made_by}
+use Rattle.ov_path.specs.Desks.{Shown, Holding, NoHold, Both, PeerLeft, IsFree, IsDrawn, IsJudged, IsSpent, HoldsPeer, HoldsKey, MayCall, Called, Joins as JoinsOwed, IsReplyOf, IsLookReply, HasMaterial, Grows, held_after, stepped_as}
+use Rattle.ov_table.specs.Recorded.{Recorded, stepped, entry_of, IsTold}
+use Rattle.ov_table.proofs.Told.{told_step}
+use Rattle.ov_serial.specs.declared.past.Mark.TheVariants as mark
+use Rattle.ov_serial.specs.Desks.{Serial, shown_of, next_of, waiting, owing_of, material_of_desk, events_of, steps_marked, debt, killed_by, Ready, StandSound, HoldSound, IsHeldSound, Sound, HasStepped, Happened, SpentIsDry, SameNext, step_made, after_step}
+use Rattle.ov_serial.proofs.Marks.{shown_stepped, marked_step}
+use Rattle.ov_serial.proofs.Acts.{get_or_more, keys_made_by, Holds, Looks, tx_looks, rx_looks, sent_done, SettledReply, settle_says, Few, command_few}
+use Rattle.ov_serial.proofs.Installed.{key_of_more, key_below}
+
+-- ---- small facts
+
+pub no_peers : (peers : List Peer) → serials peers ≡ [] → peers ≡ []
+no_peers [] none = refl
+no_peers (p ∷ peers) none = absurd (let e : ◌≡◌ {A = List ℕ} (p.serial ∷ serials peers) [] = none in cc)
+
+-- Nothing waits where no key is retired and no peer is dying.
+pub record NoneWaits (t : Table) : Type 0 where
+  pub keys : key_serials t.retired ≡ []
+  pub peers : t.dying ≡ []
+
+none_mapped : (ks ps : List ℕ) → map owed.Key ks ++ map owed.Peer ps ≡ [] → (ks ≡ []) × (ps ≡ [])
+none_mapped [] [] none = (refl, refl)
+none_mapped [] (p ∷ ps) none = absurd (cc)
+none_mapped (k ∷ ks) ps none = absurd (cc)
+
+pub none_waits : (t : Table) → waiting t ≡ [] → NoneWaits t
+none_waits t none =
+    let both = none_mapped (key_serials t.retired) (serials t.dying) none in
+    record { keys = both.0; peers = no_peers t.dying both.1 }
+
+pub nothing_waits : (t : Table) → key_serials t.retired ≡ [] → t.dying ≡ [] → waiting t ≡ []
+nothing_waits t keys peers = rw (keys, peers) refl
+
+pub debt_most : (h : Holding) (s : Stand) → debt h s ≤ 4
+debt_most NoHold s = omega arith
+debt_most (PeerLeft h) s = omega arith
+debt_most (Both h) stand.Fresh = omega arith
+debt_most (Both h) stand.Replied = omega arith
+debt_most (Both h) stand.Missed = omega arith
+debt_most (Both h) (stand.Looked v) = omega arith
+debt_most (Both h) (stand.Drew v d) = omega arith
+debt_most (Both h) (stand.Judged v) = omega arith
+debt_most (Both h) (stand.Used v u) = omega arith
+debt_most (Both h) (stand.KeyGiven v u) = omega arith
+debt_most (Both h) (stand.PeerGiven v u) = omega arith
+
+see_all-append : (s : Stand) (es fs : List Event) → see_all s (es ++ fs) ≡ see_all (see_all s es) fs
+see_all-append s [] fs = refl
+see_all-append s (e ∷ es) fs = see_all-append (see s e) es fs
+
+pub seen : (es : List Event) (e : Event) (s : Stand) → stand_of es ≡ s → stand_of (es ++ e ∷ []) ≡ see s e
+seen es e s is = see_all-append stand.Fresh es (e ∷ []) ∙ ap (λ t. see t e) is
+
+-- ---- whether a step may be made
+
+may_held : (d : Serial) (hold : Holding) (s : Stand) (peer : ℕ) → IsHeldSound d hold s → HoldsPeer hold peer → IsDrawn s → is_there peer d.table.now.live ≡ true
+may_held d (Both h) (stand.Drew v (drawn.Id n)) peer held names drew = subst (λ p. is_there p d.table.now.live ≡ true) names held.sound.there
+may_held d (Both h) (stand.Drew v drawn.Spent) peer held names drew = absurd drew
+may_held d (Both h) stand.Fresh peer held names drew = absurd drew
+may_held d (Both h) stand.Replied peer held names drew = absurd drew
+may_held d (Both h) stand.Missed peer held names drew = absurd drew
+may_held d (Both h) (stand.Looked v) peer held names drew = absurd drew
+may_held d (Both h) (stand.Judged v) peer held names drew = absurd drew
+may_held d (Both h) (stand.Used v u) peer held names drew = absurd drew
+may_held d (Both h) (stand.KeyGiven v u) peer held names drew = absurd drew
+may_held d (Both h) (stand.PeerGiven v u) peer held names drew = absurd drew
+may_held d NoHold s peer held names drew = absurd names
+may_held d (PeerLeft h) s peer held names drew = absurd names
+
+may_judged : (d : Serial) (hold : Holding) (s : Stand) (peer : ℕ) → IsHeldSound d hold s → HoldsPeer hold peer → IsJudged s → is_there peer d.table.now.live ≡ true
+may_judged d (Both h) (stand.Judged v) peer held names was = subst (λ p. is_there p d.table.now.live ≡ true) names held.sound.there
+may_judged d (Both h) (stand.Drew v r) peer held names was = absurd was
+may_judged d (Both h) stand.Fresh peer held names was = absurd was
+may_judged d (Both h) stand.Replied peer held names was = absurd was
+may_judged d (Both h) stand.Missed peer held names was = absurd was
+may_judged d (Both h) (stand.Looked v) peer held names was = absurd was
+may_judged d (Both h) (stand.Used v u) peer held names was = absurd was
+may_judged d (Both h) (stand.KeyGiven v u) peer held names was = absurd was
+may_judged d (Both h) (stand.PeerGiven v u) peer held names was = absurd was
+may_judged d NoHold s peer held names was = absurd names
+may_judged d (PeerLeft h) s peer held names was = absurd names
+
+-- A key that has none left, of a peer that is held.
+pub record MaySpend (d : Serial) (peer key : ℕ) : Type 0 where
+  pub there : is_there peer d.table.now.live ≡ true
+  pub has : list_any (has_key key) d.table.now.live ≡ true
+  pub dry : next_of d key ≡ 4294967296
+  pub none_retired : key_serials d.table.now.retired ≡ []
+
+pub may_spend : (d : Serial) (hold : Holding) (s : Stand) (peer key : ℕ) → IsHeldSound d hold s → HoldsPeer hold peer → HoldsKey hold key → IsSpent s → MaySpend d peer key
+may_spend d (Both h) (stand.Drew v drawn.Spent) peer key held names own was =
+    let ready : Ready d h = held.sound.0 in
+    record {
+      there = subst (λ p. is_there p d.table.now.live ≡ true) names ready.there;
+      has = subst (λ k. list_any (has_key k) d.table.now.live ≡ true) own ready.key;
+      dry = subst (λ k. next_of d k ≡ 4294967296) own held.sound.1;
+      none_retired = held.killed;
+    }
+may_spend d (Both h) (stand.Drew v (drawn.Id n)) peer key held names own was = absurd was
+may_spend d (Both h) (stand.Judged v) peer key held names own was = absurd was
+may_spend d (Both h) stand.Fresh peer key held names own was = absurd was
+may_spend d (Both h) stand.Replied peer key held names own was = absurd was
+may_spend d (Both h) stand.Missed peer key held names own was = absurd was
+may_spend d (Both h) (stand.Looked v) peer key held names own was = absurd was
+may_spend d (Both h) (stand.Used v u) peer key held names own was = absurd was
+may_spend d (Both h) (stand.KeyGiven v u) peer key held names own was = absurd was
+may_spend d (Both h) (stand.PeerGiven v u) peer key held names own was = absurd was
+may_spend d NoHold s peer key held names own was = absurd names
+may_spend d (PeerLeft h) s peer key held names own was = absurd names
+
+and_true : (a b : Bool) → a ≡ true → b ≡ true → (a && b) ≡ true
+and_true a b x y = rw (x, y) refl
+
+pub may_call : (d : Serial) (a : Act) → Sound d → MayCall (shown_of d) a → may_act d.table.now a ≡ true
+may_call d (act.Do c) sound may = refl
+may_call d (act.TxLook a) sound may = refl
+may_call d (act.RxLook id key_id from) sound may = refl
+may_call d (act.Sent peer inner outer ping) sound may = or_left _ _ (may_held d d.hold (stand_of (shown_of d).events) peer sound.held may.0 may.1)
+may_call d (act.Settle peer from k inner outer) sound may = or_left _ _ (may_judged d d.hold (stand_of (shown_of d).events) peer sound.held may.0 may.1)
+may_call d (act.Spend peer key) sound may =
+    let m : MaySpend d peer key = may_spend d d.hold (stand_of (shown_of d).events) peer key sound.held may.0 may.1 may.2 in
+    and_true _ _ (or_left _ _ m.there) (or_left _ _ m.has)
+may_call d (act.Released peer) sound may = absurd may
+may_call d (act.KeyReleased key) sound may = absurd may
+
+-- ---- a step that was made
+
+-- All that a step of the table is to leave.
+pub record CallDone (d : Serial) (place : Place) (call : Call) (r : Reply) : Type 0 where
+  pub called : Called (λ e f. Happened d e f) (shown_of d) place call r (material_of_desk (after_step d place call r)) (shown_of (after_step d place call r)) (after_step d place call r)
+  pub sound : Sound (after_step d place call r)
+  pub grows : Grows (material_of_desk d) (material_of_desk (after_step d place call r))
+
+pub same_next : (d : Serial) (place : Place) (call : Call) (r : Reply) → SameNext d (after_step d place call r)
+same_next d place call r = λ key. get_or_more d.next (key_made_by call.act r) key d.first
+
+pub material_grows : (d : Serial) (place : Place) (call : Call) (r : Reply) → Grows (material_of_desk d) (material_of_desk (after_step d place call r))
+material_grows d place call r = λ key m is. key_of_more d.table.journal (entry_of d.table.now place call ∷ []) key m is
+
+pub events_stepped : (d : Serial) (place : Place) (call : Call) (r : Reply) → Sound d → (shown_of (after_step d place call r)).events ≡ (shown_of d).events ++ Stepped (step_made d.table place call) ∷ []
+events_stepped d place call r sound = shown_stepped d (after_step d place call r) place call sound.told.last sound.marked refl refl refl
+
+pub made_now : (d : Serial) (place : Place) (call : Call) (r : Reply) → Sound d → r ≡ (step d.table.now call).reply → length (after_step d place call r).next ≡ (stepped d.table place call).now.keys_made
+made_now d place call r sound reply_is =
+    let now : ℕ = max d.table.now.moment call.at in
+    let grown : (step d.table.now call).after.keys_made ≡ d.table.now.keys_made + length (key_made_by call.act (step d.table.now call).reply) = keys_made_by d.table.now now call.act in
+    let long : length (d.next ++ map (λ _. d.first) (key_made_by call.act r)) ≡ length d.next + length (map (λ _. d.first) (key_made_by call.act r)) = length-append d.next (map (λ _. d.first) (key_made_by call.act r)) in
+    long ∙ rw (length-map (key_made_by call.act r) (λ _. d.first), sound.made, reply_is) (sym grown)
+
+pub step_done : (d : Serial) (place : Place) (call : Call) (r : Reply) (joined : List Owed) → Sound d → may_act d.table.now call.act ≡ true → r ≡ (step d.table.now call).reply
+    → IsReplyOf call.act r → JoinsOwed call.act r (step d.table.now call).taken joined → HasMaterial (material_of_desk (after_step d place call r)) call.act r
+    → (shown_of (after_step d place call r)).owing ≡ (shown_of d).owing ++ joined → length (shown_of (after_step d place call r)).owing ≤ 4
+    → IsHeldSound (after_step d place call r) (after_step d place call r).hold (stand_of (shown_of (after_step d place call r)).events) → SpentIsDry d call.act
+    → CallDone d place call r
+step_done d place call r joined sound may reply_is fits joins has owing few held dry =
+    let e : Serial = after_step d place call r in
+    let taken : List ℕ = (step d.table.now call).taken in
+    let events : (shown_of e).events ≡ (shown_of d).events ++ Stepped (step_made d.table place call) ∷ [] = events_stepped d place call r sound in
+    let same : Stepped (step_made d.table place call) ≡ stepped_as place call r taken = rw reply_is refl in
+    let events_are : (shown_of e).events ≡ (shown_of d).events ++ stepped_as place call r taken ∷ [] = events ∙ ap (λ x. (shown_of d).events ++ x ∷ []) same in
+    let P : List Event → List Owed → Shown = λ x y. record { events = x; hold = held_after d.hold call.act r; owing = y } in
+    let shown_is : shown_of e ≡ P ((shown_of d).events ++ stepped_as place call r taken ∷ []) ((shown_of d).owing ++ joined) = ap (λ x. P x (shown_of e).owing) events_are ∙ ap (λ y. P ((shown_of d).events ++ stepped_as place call r taken ∷ []) y) owing in
+    let made : Happened d (Stepped (step_made d.table place call)) e = record {
+      makes = record { may = may; step_is = refl; table = refl; shards = refl; next = same_next d place call r; dry = dry };
+      first = refl;
+      start = refl;
+    } in
+    let length_now : length (stepped d.table place call).journal ≡ length d.table.journal + 1 = length-append d.table.journal (entry_of d.table.now place call ∷ []) in
+    let marks_now : steps_marked (d.marks ++ mark.Stepped ∷ []) ≡ steps_marked d.marks + 1 = marked_step d.marks in
+    let was : d.start + steps_marked d.marks ≡ length d.table.journal = sound.marked in
+    let most : debt e.hold (stand_of (shown_of e).events) ≤ 4 = debt_most e.hold (stand_of (shown_of e).events) in
+    record {
+      called = record {
+        taken = taken;
+        joined = joined;
+        fits = fits;
+        joins = joins;
+        has = has;
+        new_is = shown_is;
+        done = subst (λ (x : Event). Happened d x e) same made;
+      };
+      sound = record {
+        told = told_step d.table place call may sound.told;
+        eight = sound.eight;
+        numbers = sound.numbers;
+        made = made_now d place call r sound reply_is;
+        first = sound.first;
+        counters = λ key. rw (same_next d place call r key) (sound.counters key);
+        marked = omega arith;
+        spare = omega arith;
+        held = held;
+      };
+      grows = material_grows d place call r;
+    }
