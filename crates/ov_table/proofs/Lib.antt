@@ -1,2 +1,4 @@
+pub mod Floats
+pub mod Outcomes
 pub mod Places
 pub mod Told

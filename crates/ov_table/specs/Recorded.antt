@@ -10,15 +10,17 @@ use Rattle.ov_model.specs.Tables.{Table, empty_table}
 use Rattle.ov_model.specs.Step.{step}
 use Rattle.ov_model.specs.Runs.{IsRun, last_table, notes_of, numbered}
 
--- now: the table after all steps so far; journal: their entries; notes: their notifications.
+-- now: the table after all steps so far; journal: their entries; notes: their notifications; taken: the
+-- serials of the keys that the last step took out of a slot, in order.
 pub record Recorded : Type 0 where
   pub now : Table
   pub journal : List Entry
   pub notes : List Note
+  pub taken : List ℕ
 
 -- No step was made yet.
 abbrev pub no_steps : Recorded
-no_steps = record { now = empty_table; journal = []; notes = [] }
+no_steps = record { now = empty_table; journal = []; notes = []; taken = [] }
 
 -- The entry of a call that is made at some table.
 abbrev pub entry_of : Table → Place → Call → Entry
@@ -26,7 +28,7 @@ entry_of t place call = record { place = place; call = call; reply = (step t cal
 
 -- One step further: the serial step, its one entry, and its notes with the entry's number.
 abbrev pub stepped : Recorded → Place → Call → Recorded
-stepped r place call = record { now = (step r.now call).after; journal = r.journal ++ entry_of r.now place call ∷ []; notes = r.notes ++ numbered (length r.journal) (step r.now call).notes }
+stepped r place call = record { now = (step r.now call).after; journal = r.journal ++ entry_of r.now place call ∷ []; notes = r.notes ++ numbered (length r.journal) (step r.now call).notes; taken = (step r.now call).taken }
 
 -- The journal is a run, the table is the run's last one, and the notes are the run's.
 pub record IsTold (r : Recorded) : Type 0 where
@@ -34,11 +36,12 @@ pub record IsTold (r : Recorded) : Type 0 where
   pub last : last_table r.journal ≡ r.now
   pub notes : r.notes ≡ notes_of r.journal
 
--- Whether a call lets a removed peer go.
+-- Whether an act lets a removed peer or a retired key go.
 abbrev pub is_release : Act → Bool
-is_release (act.Do c) = false
 is_release (act.Released serial) = true
+is_release (act.KeyReleased serial) = true
+is_release _ = false
 
--- How many peers aren't let go yet.
+-- How many releases may come before another step: of the peers, and of the keys that are out of their slots.
 abbrev pub unreleased : Table → ℕ
-unreleased t = length t.live + length t.dying
+unreleased t = length t.live + length t.dying + length t.retired

@@ -1,10 +1,11 @@
-//! The table of peers: each step with its entry and its notes, so that the journal is always a run.
+//! The table of peers and keys: each step with its entry and its notes, so that the journal is always a run.
 #![tactic(auto)]
 
 mod find;
 mod outcome;
 mod peer;
 mod peers;
+mod retired;
 mod room;
 pub mod table;
 

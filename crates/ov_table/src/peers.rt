@@ -1,33 +1,38 @@
-//! The lists of the live and the dying peers, and the acts on them. It is kept true that at most 4,096
-//! peers were ever made and that the lists hold no more peers than were made.
+//! The lists of the live and the dying peers and of the retired keys, and the acts on them. It is kept
+//! true that at most 4,096 peers and 65,536 keys were ever made and that the lists hold no more peers than
+//! were made.
 
-ghost use Rattle.std.specs.Prelude.{◌≡◌, ◌≤◌, ◌+◌, max, length, true, ◌==◌, IfOk, OnOk, OnErr};
-ghost use Rattle.std.specs.List.{list_any};
-ghost use Rattle.ov_model.specs.declared.reply.Reply.TheVariants as reply;
+ghost use Rattle.std.specs.Prelude.{◌≡◌, ◌≤◌, ◌+◌, ◌||◌, max, false, IfOk, IfSome, OnOk, OnErr};
 ghost use Rattle.ov_model.specs.Step as model;
 ghost use Rattle.ov_model.specs.Tables.{empty_table};
 ghost use Rattle.ov_table.specs.Outcomes.{outcome};
-ghost use Rattle.ov_table.specs.Recorded.{unreleased};
+ghost use Rattle.ov_table.specs.Pairs.{pair_in};
+ghost use Rattle.ov_table.specs.Recorded.{unreleased, is_release};
+
+mod commands;
+mod looks;
+mod releases;
+mod uses;
 
 use crate::find;
 use crate::outcome::Outcome;
 use crate::peer::Peer;
-use crate::room::push_within;
-use ov_base::{ListOf, Memory, Transport};
-use ov_model::{Attrs, Command, Errno, NoteBody, PeerId, Reason, Reply};
+use ov_base::Memory;
+use ov_keys::{KeyPair, KeyRec};
+use ov_model::{Act, Errno, Reply};
 use std::alloc::Global;
 use std::marker::Model;
 
-/// How many peers may be made.
-const MOST_PEERS: u32 = 4096;
-
-/// The peers, and how many were ever made, and the greatest moment so far in whole seconds.
+/// The peers and the keys that are out of their slots, how many of both were ever made, and the greatest
+/// moment so far in whole seconds.
 #[derive(Drop)]
 pub struct Peers {
     alloc: Global,
     live: Vec<Peer>,
     dying: Vec<Peer>,
+    retired: Vec<KeyRec>,
     made: u32,
+    keys_made: u32,
     moment: u32,
 }
 
@@ -37,9 +42,9 @@ impl Model for Peers {
 
     ghost Value = { Table };
 
-    ghost view = { λ t. record { live = t.live.items; dying = t.dying.items; made = t.made; moment = t.moment } };
+    ghost view = { λ t. record { live = t.live.items; dying = t.dying.items; retired = t.retired.items; made = t.made; keys_made = t.keys_made; moment = t.moment } };
 
-    ghost invariant = { λ t. (t.made ≤ 4096) × (length t.live.items + length t.dying.items ≤ t.made) };
+    ghost invariant = { λ t. (t.made ≤ 4096) × (length t.live.items + length t.dying.items ≤ t.made) × (t.keys_made ≤ 65536) };
 }
 
 impl Peers {
@@ -51,24 +56,20 @@ impl Peers {
             alloc,
             live: Vec::new(alloc),
             dying: Vec::new(alloc),
+            retired: Vec::new(alloc),
             made: 0,
+            keys_made: 0,
             moment: 0,
         }
     }
 
-    /// How many peers aren't let go yet.
-    pub fn unreleased(&self) -> usize
-        ensures value { result ≡ unreleased self.now }
-        ensures most { result ≤ 4096 }
+    /// How many entries one step needs with all the releases that may follow it: a step takes at most two
+    /// keys out of their slots. `None` is a number past the greatest usize.
+    pub fn room(&self) -> Option<usize>
+        ensures { IfSome result (λ n. n ≡ unreleased self.now + 3) }
     {
-        self.live.len() + self.dying.len()
-    }
-
-    /// Whether a removed peer with this serial isn't let go yet.
-    pub fn is_dying(&self, serial: u32) -> bool
-        ensures { result ≡ list_any (λ p. p.serial == serial) self.now.dying }
-    {
-        find::has_serial(&self.dying, serial)
+        let peers = self.live.len() + self.dying.len();
+        self.retired.len().checked_add(peers + 3)
     }
 
     /// The greater of the table's moment and `at`.
@@ -78,128 +79,77 @@ impl Peers {
         self.moment.max(at)
     }
 
-    /// One command at the moment `now`.
-    pub fn command(&mut self, now: u32, command: &Command) -> Result<Outcome, Memory>
-        ensures ok { IfOk result (λ o. outcome self.new o.reply o.note ≡ model.command_step self.old now command.now) }
+    /// Whether an act may be made.
+    pub fn may(&self, act: &Act) -> bool
+        ensures { result ≡ model.may_act self.now act.now }
+    {
+        match *act {
+            Act::Do(_) | Act::TxLook(_) | Act::RxLook { .. } => true,
+            Act::Sent { peer, .. } | Act::Settle { peer, .. } => self.is_there(peer),
+            Act::Spend { peer, key } => {
+                self.is_there(peer)
+                    && (find::has_key(&self.live, key) || find::has_key_serial(&self.retired, key))
+            }
+            Act::Released(peer) => find::has_serial(&self.dying, peer),
+            Act::KeyReleased(key) => find::has_key_serial(&self.retired, key),
+        }
+    }
+
+    /// Whether a peer with this serial isn't let go yet.
+    fn is_there(&self, peer: u32) -> bool
+        ensures { result ≡ (model.is_there peer self.now.live || model.is_there peer self.now.dying) }
+    {
+        find::has_serial(&self.live, peer) || find::has_serial(&self.dying, peer)
+    }
+
+    /// What the key with a serial seals and opens with, where it is in a slot of a live peer or retired.
+    pub fn pair(&self, key: u32) -> Option<KeyPair>
+        ensures { result ≡ pair_in self.now key }
+    {
+        if let Some(key) = find::key_in_slots(&self.live, key) {
+            return Some(*key.pair);
+        }
+        let key = find::with_key_serial(&self.retired, key)?;
+        Some(*key.pair)
+    }
+
+    /// One act that isn't a release, at the moment `now`.
+    pub fn act(&mut self, now: u32, act: &Act) -> Result<Outcome, Memory>
+        requires { is_release act.now ≡ false }
+        ensures ok { IfOk result (λ o. outcome self.new o.reply o.note o.first o.second ≡ model.act_step self.old now act.now) }
         ensures kept { IfOk result (λ o. o.kept ≡ o.reply) }
-        ensures more { OnOk result (unreleased self.new ≤ unreleased self.old + 1) }
+        ensures more { OnOk result (unreleased self.new ≤ unreleased self.old + 2) }
         ensures err { OnErr result (self.new ≡ self.old) }
     {
-        match *command {
-            Command::PeerNew(attrs) => self.peer_new(now, &attrs),
-            Command::PeerGet(id) => Ok(self.peer_get(now, id)),
-            Command::Remove(id, reason) => self.remove(now, id, reason),
+        match *act {
+            Act::Do(command) => self.command(now, &command),
+            Act::TxLook(to) => Ok(self.tx_look(now, to)),
+            Act::RxLook { id, key_id, from } => Ok(self.rx_look(now, id, key_id, from)),
+            Act::Sent {
+                peer,
+                inner,
+                outer,
+                ping,
+            } => Ok(self.sent(now, peer, inner, outer, ping)),
+            Act::Settle {
+                peer,
+                from,
+                kind,
+                inner,
+                outer,
+            } => Ok(self.settle(now, peer, from, kind, inner, outer)),
+            Act::Spend { peer, key } => self.spend(now, peer, key),
+            Act::Released(_) | Act::KeyReleased(_) => unreachable!(),
         }
-    }
-
-    /// peer-new. Refused in this order: without a remote or a VPN address it is invalid; the id, a VPN
-    /// address or the remote of another live peer exists; and then there may be no space.
-    #[tactic(auto, unfolding(ov_model::specs::Step::peer_new))]
-    fn peer_new(&mut self, now: u32, attrs: &Attrs) -> Result<Outcome, Memory>
-        ensures ok { IfOk result (λ o. outcome self.new o.reply o.note ≡ model.peer_new self.old now attrs.now) }
-        ensures kept { IfOk result (λ o. o.kept ≡ o.reply) }
-        ensures more { OnOk result (unreleased self.new ≤ unreleased self.old + 1) }
-        ensures err { OnErr result (self.new ≡ self.old) }
-    {
-        let Some(remote) = attrs.remote else {
-            return Ok(self.refuse(now, Errno::Invalid));
-        };
-        if attrs.vpn4.is_none() && attrs.vpn6.is_none() {
-            return Ok(self.refuse(now, Errno::Invalid));
-        }
-        if find::with_id(&self.live, attrs.id).is_some()
-            || find::shares_vpn(&self.live, attrs)
-            || find::with_remote(&self.live, remote).is_some()
-        {
-            return Ok(self.refuse(now, Errno::Exists));
-        }
-        if self.made >= MOST_PEERS {
-            return Ok(self.refuse(now, Errno::NoSpace));
-        }
-        self.live.push(Peer::new(self.made, now, attrs, remote))?;
-        let serial = self.made;
-        self.made += 1;
-        self.moment = now;
-        Ok(Outcome {
-            reply: Reply::Made(serial),
-            kept: Reply::Made(serial),
-            note: None,
-        })
-    }
-
-    /// peer-get: what the live peer with an id is, refused where there is none.
-    #[tactic(auto, unfolding(ov_model::specs::Step::peer_get))]
-    fn peer_get(&mut self, now: u32, id: PeerId) -> Outcome
-        ensures value { outcome self.new result.reply result.note ≡ model.peer_get self.old now id }
-        ensures kept { result.kept ≡ result.reply }
-        ensures same { unreleased self.new ≡ unreleased self.old }
-    {
-        self.moment = now;
-        match find::with_id(&self.live, id) {
-            Some(peer) => Outcome {
-                reply: Reply::Peer(peer.view()),
-                kept: Reply::Peer(peer.view()),
-                note: None,
-            },
-            None => Outcome {
-                reply: Reply::Refused(Errno::NoEntry),
-                kept: Reply::Refused(Errno::NoEntry),
-                note: None,
-            },
-        }
-    }
-
-    /// The removal of the live peer with an id, refused where there is none: it joins the dying ones, and
-    /// the note tells its id and the reason.
-    #[tactic(auto, unfolding(ov_model::specs::Step::remove_peer))]
-    fn remove(&mut self, now: u32, id: PeerId, reason: Reason) -> Result<Outcome, Memory>
-        ensures ok { IfOk result (λ o. outcome self.new o.reply o.note ≡ model.remove_peer self.old now id reason) }
-        ensures kept { IfOk result (λ o. o.kept ≡ o.reply) }
-        ensures more { OnOk result (unreleased self.new ≤ unreleased self.old + 1) }
-        ensures err { OnErr result (self.new ≡ self.old) }
-    {
-        let Some(place) = find::place_of_id(&self.live, id) else {
-            return Ok(self.refuse(now, Errno::NoEntry));
-        };
-        let serial = self.live[place].serial;
-        let reply = Reply::Removed(ListOf::of_vec(Vec::from_slice(self.alloc, &[serial])?));
-        let kept = Reply::Removed(ListOf::of_vec(Vec::from_slice(self.alloc, &[serial])?));
-        self.dying.reserve(1)?;
-        let peer = self.live.remove(place);
-        push_within(&mut self.dying, peer);
-        self.moment = now;
-        let note = Some(NoteBody::PeerDel {
-            id: peer.id,
-            reason,
-        });
-        Ok(Outcome { reply, kept, note })
-    }
-
-    /// A dying peer is let go.
-    #[tactic(auto, unfolding(ov_model::specs::Step::released))]
-    pub fn release(&mut self, now: u32, serial: u32)
-        requires { list_any (λ p. p.serial == serial) self.old.dying ≡ true }
-        ensures value { outcome self.new (reply.Released serial) None ≡ model.released self.old now serial }
-        ensures fewer { unreleased self.new + 1 ≡ unreleased self.old }
-    {
-        let Some(place) = find::place_of_serial(&self.dying, serial) else {
-            unreachable!();
-        };
-        self.dying.remove(place);
-        self.moment = now;
     }
 
     /// A refusal changes nothing but the moment.
     fn refuse(&mut self, now: u32, errno: Errno) -> Outcome
-        ensures value { outcome self.new result.reply result.note ≡ model.refused self.old now errno }
+        ensures value { outcome self.new result.reply result.note result.first result.second ≡ model.refused self.old now errno }
         ensures kept { result.kept ≡ result.reply }
         ensures same { unreleased self.new ≡ unreleased self.old }
     {
         self.moment = now;
-        Outcome {
-            reply: Reply::Refused(errno),
-            kept: Reply::Refused(errno),
-            note: None,
-        }
+        Outcome::plain(Reply::Refused(errno), Reply::Refused(errno))
     }
 }

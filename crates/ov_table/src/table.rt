@@ -1,29 +1,33 @@
 //! The peer table with its journal and its notes. It is kept true that the journal is a run whose last
-//! table is the present one and whose notes are the kept ones, and that each peer that isn't let go has
-//! room for the entry that lets it go.
+//! table is the present one and whose notes are the kept ones, and that each peer that isn't let go and
+//! each retired key has room for the entry that lets it go.
 
-ghost use Rattle.std.specs.Prelude.{◌≡◌, ◌<◌, ◌++◌, true, IfOk, IsOk, OnOk, OnErr, vec_len};
+ghost use Rattle.std.specs.Prelude.{◌≡◌, ◌<◌, ◌≤◌, ◌++◌, true, false, IfOk, IsOk, OnOk, OnErr, vec_len};
 ghost use Rattle.std.specs.Vec.{vec_capacity};
 ghost use Rattle.ov_model.specs.declared.act.Act.TheVariants as act;
 ghost use Rattle.ov_model.specs.Runs.{numbered};
 ghost use Rattle.ov_model.specs.Step.{step, May, may_act};
-ghost use Rattle.ov_table.specs.Outcomes.{note_list};
+ghost use Rattle.ov_table.specs.Outcomes.{note_list, serial_list};
+ghost use Rattle.ov_table.specs.Pairs.{pair_in};
 ghost use Rattle.ov_table.specs.Recorded.{no_steps, stepped, IsTold, is_release};
 
 use crate::peers::Peers;
 use crate::room::push_within;
 use ov_base::{ListOf, Memory};
-use ov_model::{Act, Call, Command, Entry, Note, NoteBody, Place, Reply};
+use ov_keys::KeyPair;
+use ov_model::{Act, Call, Entry, Note, NoteBody, Place, Reply};
 use std::alloc::Global;
 use std::marker::Model;
 
-/// The table of the live and the dying peers with the history of its steps: what the kernel keeps of
-/// peers for the netlink family "ovpn" (Documentation/netlink/specs/ovpn.yaml), each command in turn.
+/// The table of the live and the dying peers and of their keys with the history of its steps: what the
+/// kernel keeps of peers for the netlink family "ovpn" (Documentation/netlink/specs/ovpn.yaml), each
+/// command in turn, and what packets look up and change in it.
 #[derive(Drop)]
 pub struct Table {
     peers: Peers,
     journal: Vec<Entry>,
     notes: Vec<Note>,
+    taken: Vec<u32>,
 }
 
 impl Model for Table {
@@ -33,9 +37,9 @@ impl Model for Table {
 
     ghost Value = { Recorded };
 
-    ghost view = { λ t. record { now = t.peers; journal = t.journal.items; notes = t.notes.items } };
+    ghost view = { λ t. record { now = t.peers; journal = t.journal.items; notes = t.notes.items; taken = t.taken.items } };
 
-    ghost invariant = { λ t. IsTold (record { now = t.peers; journal = t.journal.items; notes = t.notes.items }) × (vec_len t.journal + unreleased t.peers ≤ vec_capacity t.journal) };
+    ghost invariant = { λ t. IsTold (record { now = t.peers; journal = t.journal.items; notes = t.notes.items; taken = t.taken.items }) × (vec_len t.journal + unreleased t.peers ≤ vec_capacity t.journal) };
 }
 
 impl Table {
@@ -47,6 +51,7 @@ impl Table {
             peers: Peers::new(alloc),
             journal: Vec::new(alloc),
             notes: Vec::new(alloc),
+            taken: Vec::new(alloc),
         }
     }
 
@@ -61,39 +66,44 @@ impl Table {
         ensures release { is_release call.now.act ≡ true → IsOk result }
     {
         match call.act {
-            Act::Do(command) => self.command(place, call.at, command),
             Act::Released(serial) => Ok(self.release(place, call.at, serial)),
+            Act::KeyReleased(serial) => Ok(self.release_key(place, call.at, serial)),
+            _ => self.act(place, call),
         }
     }
 
-    // A command's step. The room for its entry, for those of all releases that may come, and for its note
-    // is reserved before anything changes.
-    fn command(&mut self, place: Place, at: u32, command: Command) -> Result<Reply, Memory>
-        ensures reply { IfOk result (λ r. r ≡ (step self.old.now (record { at = at; act = act.Do command })).reply) }
-        ensures stepped { OnOk result (self.new ≡ stepped self.old place (record { at = at; act = act.Do command })) }
+    // A step that isn't a release. The room for its entry, for those of all releases that may come, for its
+    // note and for the keys that it takes is reserved before anything changes.
+    fn act(&mut self, place: Place, call: &Call) -> Result<Reply, Memory>
+        requires may { May self.old.now call.now }
+        requires other { is_release call.now.act ≡ false }
+        ensures reply { IfOk result (λ r. r ≡ (step self.old.now call.now).reply) }
+        ensures stepped { OnOk result (self.new ≡ stepped self.old place call.now) }
         ensures memory { OnErr result (self.new ≡ self.old) }
     {
-        self.journal.reserve(self.peers.unreleased() + 2)?;
+        let Some(room) = self.peers.room() else {
+            return Err(Memory);
+        };
+        self.journal.reserve(room)?;
         self.notes.reserve(1)?;
-        let now = self.peers.moment_at(at);
-        let outcome = self.peers.command(now, &command)?;
+        self.taken.reserve(2)?;
+        let now = self.peers.moment_at(call.at);
+        let outcome = self.peers.act(now, &call.act)?;
         let entry = self.journal.len() as u64;
         push_within(
             &mut self.journal,
             Entry {
                 place,
-                call: Call {
-                    at,
-                    act: Act::Do(command),
-                },
+                call: *call,
                 reply: outcome.kept,
             },
         );
         push_note(&mut self.notes, entry, outcome.note);
+        set_taken(&mut self.taken, outcome.first, outcome.second);
         Ok(outcome.reply)
     }
 
-    // The step that lets a dying peer go. The room for its entry was reserved when the peer was made.
+    // The step that lets a dying peer go. The room for its entry was reserved while the peer was live.
     fn release(&mut self, place: Place, at: u32, serial: u32) -> Reply
         requires { May self.old.now (record { at = at; act = act.Released serial }) }
         ensures reply { result ≡ (step self.old.now (record { at = at; act = act.Released serial })).reply }
@@ -112,18 +122,57 @@ impl Table {
                 reply: Reply::Released(serial),
             },
         );
+        self.taken.clear();
         Reply::Released(serial)
     }
 
-    /// Whether `call` may be made: a release needs a removed peer with its serial that isn't let go yet,
-    /// every other call needs nothing.
+    // The step that lets a retired key go. The room for its entry was reserved by the step that retired it.
+    fn release_key(&mut self, place: Place, at: u32, serial: u32) -> Reply
+        requires { May self.old.now (record { at = at; act = act.KeyReleased serial }) }
+        ensures reply { result ≡ (step self.old.now (record { at = at; act = act.KeyReleased serial })).reply }
+        ensures stepped { self.new ≡ stepped self.old place (record { at = at; act = act.KeyReleased serial }) }
+    {
+        let now = self.peers.moment_at(at);
+        self.peers.release_key(now, serial);
+        push_within(
+            &mut self.journal,
+            Entry {
+                place,
+                call: Call {
+                    at,
+                    act: Act::KeyReleased(serial),
+                },
+                reply: Reply::KeyReleased(serial),
+            },
+        );
+        self.taken.clear();
+        Reply::KeyReleased(serial)
+    }
+
+    /// Whether `call` may be made. A release needs a removed peer or a retired key with its serial that
+    /// isn't let go yet; what is done with a hold needs its peer, and to spend a key that key too, not let
+    /// go yet; every other call needs nothing.
     pub fn may(&self, call: &Call) -> bool
         ensures { result ≡ may_act self.now.now call.now.act }
     {
-        match call.act {
-            Act::Do(_) => true,
-            Act::Released(serial) => self.peers.is_dying(serial),
-        }
+        self.peers.may(&call.act)
+    }
+
+    /// What the key with a serial seals and opens with: Some exactly where it stands in a slot of a live
+    /// peer or is retired and not let go yet.
+    pub fn pair(&self, key: u32) -> Option<KeyPair>
+        ensures { result ≡ pair_in self.now.now key }
+    {
+        self.peers.pair(key)
+    }
+
+    /// The serials of the keys that the last step took out of a slot, in order: the key that a key-new
+    /// replaced, the keys of a removed peer, the primary's first, or a spent key. A step that answered
+    /// `Memory` isn't one.
+    pub fn taken(&self) -> &[u32]
+        ensures { result.now ≡ self.now.taken }
+    {
+        self.taken.as_slice()
     }
 
     /// The entries of the steps so far. They are a run that ends with the present table.
@@ -145,7 +194,7 @@ impl Table {
     pub fn finish(self) -> (ListOf<Entry>, ListOf<Note>)
         ensures journal { result.0 ≡ self.journal }
         ensures notes { result.1 ≡ self.notes }
-        ensures told { IsTold (record { now = self.now; journal = result.0; notes = result.1 }) }
+        ensures told { IsTold (record { now = self.now; journal = result.0; notes = result.1; taken = self.taken }) }
     {
         let Table { journal, notes, .. } = self;
         (ListOf::of_vec(journal), ListOf::of_vec(notes))
@@ -159,5 +208,19 @@ fn push_note(notes: &mut Vec<Note>, entry: u64, note: Option<NoteBody>)
 {
     if let Some(body) = note {
         push_within(notes, Note { entry, body });
+    }
+}
+
+/// Puts down the serials of the keys that a step took, in the room that was reserved for them.
+fn set_taken(taken: &mut Vec<u32>, first: Option<u32>, second: Option<u32>)
+    requires { 2 ≤ vec_capacity taken.old }
+    ensures { taken.new.items ≡ serial_list first ++ serial_list second }
+{
+    taken.clear();
+    if let Some(key) = first {
+        push_within(taken, key);
+    }
+    if let Some(key) = second {
+        push_within(taken, key);
     }
 }

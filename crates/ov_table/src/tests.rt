@@ -1,8 +1,13 @@
 //! What no clause says: which refusals the family gives where, and that the calls succeed.
 
 use crate::Table;
+use ov_aes::KeyBytes;
 use ov_base::{Addr, Memory, Transport};
-use ov_model::{Act, Attrs, Call, Command, Errno, Note, NoteBody, PeerId, Place, Reason, Reply};
+use ov_model::{
+    Act, Attrs, Call, Command, Errno, HoldView, InnerKind, KeyConf, KeyDir, KeyId, Note, NoteBody,
+    PeerId, Place, Reason, Reply, Settled, Slot,
+};
+use std::process::Abort;
 use std::test::Fail;
 
 /// A peer with an IPv4 remote at port 1194 and an IPv4 address inside the tunnel.
@@ -19,19 +24,65 @@ fn attrs(id: PeerId, remote: [u8; 4], vpn: [u8; 4]) -> Attrs {
     }
 }
 
-/// One command of lane 0 at a moment, its line numbered by the journal.
-fn ask(table: &mut Table, at: u32, command: Command) -> Result<Reply, Memory> {
+/// One act of lane 0 at a moment, its line numbered by the journal.
+fn make(table: &mut Table, at: u32, act: Act) -> Result<Reply, Memory> {
     let place = Place {
         lane: 0,
         line: table.journal().len() as u64,
     };
-    table.step(
-        place,
-        &Call {
-            at,
-            act: Act::Do(command),
-        },
-    )
+    let call = Call { at, act };
+    if !table.may(&call) {
+        return Ok(Reply::Refused(Errno::Invalid));
+    }
+    table.step(place, &call)
+}
+
+/// One command.
+fn ask(table: &mut Table, at: u32, command: Command) -> Result<Reply, Memory> {
+    make(table, at, Act::Do(command))
+}
+
+/// A key of peer 5 with this key id, for a slot. Both its directions are made of the byte `byte`.
+fn conf(rt: &impl Abort, slot: Slot, key_id: u8, byte: u8) -> KeyConf {
+    let dir = KeyDir {
+        key: KeyBytes::K16([byte; 16]),
+        tail: [byte; 8],
+    };
+    KeyConf {
+        peer: PeerId::new(5).expect(rt, "an id in range"),
+        slot,
+        key_id: KeyId::new(key_id).expect(rt, "an id in range"),
+        encrypt: dir,
+        decrypt: dir,
+    }
+}
+
+/// An IPv4 transport at port 1194.
+fn transport(octets: [u8; 4]) -> Transport {
+    Transport {
+        addr: Addr::V4(octets),
+        port: 1194,
+    }
+}
+
+/// A table with the peers 5 and 6, whose serials are 0 and 1. Peer 5 has key 0 in its primary slot and key
+/// 1 in its secondary slot; peer 6 has no keys.
+fn two_peers(rt: &impl Abort, table: &mut Table) -> Result<(), Fail> {
+    for (n, serial) in [(5, 0), (6, 1)] {
+        let id = PeerId::new(u32::from(n)).expect(rt, "an id in range");
+        let reply = ask(
+            table,
+            0,
+            Command::PeerNew(attrs(id, [192, 0, 2, n], [10, 8, 0, n])),
+        )?;
+        assert_eq!(rt; reply, Reply::Made(serial));
+    }
+    for (slot, serial) in [(Slot::Primary, 0), (Slot::Secondary, 1)] {
+        let key = conf(rt, slot, serial as u8, serial as u8);
+        assert_eq!(rt; ask(table, 0, Command::KeyNew(key))?, Reply::Made(serial));
+        assert!(rt; table.taken().is_empty());
+    }
+    Ok(())
 }
 
 #[test]
@@ -141,5 +192,172 @@ fn a_removed_peer_is_noted_and_let_go(rt: HostRuntime) -> Result<(), Fail> {
     let (journal, notes) = table.finish();
     assert_eq!(rt; journal.len(), 5);
     assert_eq!(rt; notes.len(), 1);
+    Ok(())
+}
+
+#[test]
+fn a_replaced_key_is_retired_and_let_go(rt: HostRuntime) -> Result<(), Fail> {
+    let mut table = Table::new(rt.alloc());
+    two_peers(&rt, &mut table)?;
+    let release = Act::KeyReleased(0);
+    assert!(rt;
+        !table.may(&Call {
+            at: 0,
+            act: release
+        })
+    );
+    let key = conf(&rt, Slot::Primary, 2, 2);
+    assert_eq!(rt; ask(&mut table, 1, Command::KeyNew(key))?, Reply::Made(2));
+    assert_eq!(rt; table.taken(), [0].as_slice());
+    assert!(rt; table.pair(0).is_some());
+    assert_eq!(rt; make(&mut table, 1, release)?, Reply::KeyReleased(0));
+    assert!(rt; table.taken().is_empty());
+    assert!(rt; table.pair(0).is_none());
+    let tail = table.pair(2).map(|pair| pair.seal_tail);
+    assert_eq!(rt; tail, Some([2; 8]));
+    let mut other = key;
+    other.peer = PeerId::new(7).expect(&rt, "an id in range");
+    assert_eq!(rt;
+        ask(&mut table, 1, Command::KeyNew(other))?,
+        Reply::Refused(Errno::NoEntry)
+    );
+    Ok(())
+}
+
+#[test]
+fn a_removal_takes_both_keys_the_primary_first(rt: HostRuntime) -> Result<(), Fail> {
+    let mut table = Table::new(rt.alloc());
+    two_peers(&rt, &mut table)?;
+    let five = PeerId::new(5).expect(&rt, "an id in range");
+    ask(&mut table, 1, Command::Remove(five, Reason::Userspace))?;
+    assert_eq!(rt; table.taken(), [0, 1].as_slice());
+    for key in [1, 0] {
+        assert_eq!(rt;
+            make(&mut table, 1, Act::KeyReleased(key))?,
+            Reply::KeyReleased(key)
+        );
+        assert!(rt; table.pair(key).is_none());
+    }
+    assert_eq!(rt; make(&mut table, 1, Act::Released(0))?, Reply::Released(0));
+    Ok(())
+}
+
+#[test]
+fn a_look_up_holds_the_peer_and_its_key(rt: HostRuntime) -> Result<(), Fail> {
+    let mut table = Table::new(rt.alloc());
+    two_peers(&rt, &mut table)?;
+    let five = PeerId::new(5).expect(&rt, "an id in range");
+    let none = PeerId::new(16_777_215).expect(&rt, "an id in range");
+    let ids = [0, 1, 2].map(|n| KeyId::new(n).expect(&rt, "an id in range"));
+    let from = transport([192, 0, 2, 5]);
+    let hold = |key| {
+        Reply::Hold(HoldView {
+            peer: 0,
+            id: five,
+            key,
+            key_id: ids[key as usize],
+            to: from,
+        })
+    };
+    let look = |id, key: usize, from| Act::RxLook {
+        id,
+        key_id: ids[key],
+        from,
+    };
+    for (act, wanted) in [
+        (Act::TxLook(Addr::V4([10, 8, 0, 5])), hold(0)),
+        (Act::TxLook(Addr::V4([10, 8, 0, 6])), Reply::NoKey),
+        (Act::TxLook(Addr::V4([10, 8, 0, 7])), Reply::NoPeer),
+        (look(five, 0, from), hold(0)),
+        (look(five, 1, transport([192, 0, 2, 9])), hold(1)),
+        (look(five, 2, from), Reply::NoKey),
+        (look(none, 1, from), hold(1)),
+        (look(none, 1, transport([192, 0, 2, 9])), Reply::NoPeer),
+    ] {
+        assert_eq!(rt; make(&mut table, 1, act)?, wanted);
+    }
+    Ok(())
+}
+
+#[test]
+fn a_spent_key_is_killed_once_and_noted(rt: HostRuntime) -> Result<(), Fail> {
+    let mut table = Table::new(rt.alloc());
+    two_peers(&rt, &mut table)?;
+    let spend = Act::Spend { peer: 0, key: 1 };
+    assert_eq!(rt; make(&mut table, 1, spend)?, Reply::Killed);
+    assert_eq!(rt; table.taken(), [1].as_slice());
+    assert_eq!(rt; make(&mut table, 1, spend)?, Reply::AlreadyGone);
+    assert!(rt; table.taken().is_empty());
+    let note = Note {
+        entry: 4,
+        body: NoteBody::KeySwap {
+            id: PeerId::new(5).expect(&rt, "an id in range"),
+            key_id: KeyId::new(1).expect(&rt, "an id in range"),
+        },
+    };
+    assert_eq!(rt; table.notes(), [note].as_slice());
+    assert_eq!(rt;
+        make(&mut table, 1, Act::KeyReleased(1))?,
+        Reply::KeyReleased(1)
+    );
+    assert!(rt; !table.may(&Call { at: 1, act: spend }));
+    Ok(())
+}
+
+#[test]
+fn what_is_sent_and_received_is_counted(rt: HostRuntime) -> Result<(), Fail> {
+    let mut table = Table::new(rt.alloc());
+    two_peers(&rt, &mut table)?;
+    let five = PeerId::new(5).expect(&rt, "an id in range");
+    let taken = Some(transport([192, 0, 2, 6]));
+    let free = Some(transport([192, 0, 2, 9]));
+    let settle = |from, kind| Act::Settle {
+        peer: 0,
+        from,
+        kind,
+        inner: 20,
+        outer: 44,
+    };
+    let sent = |ping| Act::Sent {
+        peer: 0,
+        inner: 20,
+        outer: 44,
+        ping,
+    };
+    for (act, wanted) in [
+        (
+            settle(taken, InnerKind::From(Addr::V4([10, 8, 0, 5]))),
+            Reply::Settled(Settled::Deliver),
+        ),
+        (
+            settle(None, InnerKind::From(Addr::V4([10, 8, 0, 6]))),
+            Reply::Settled(Settled::NotOwner),
+        ),
+        (settle(free, InnerKind::Ping), Reply::Settled(Settled::Ping)),
+        (
+            settle(None, InnerKind::NotIp),
+            Reply::Settled(Settled::NotIp),
+        ),
+        (sent(false), Reply::Done),
+        (sent(true), Reply::Done),
+    ] {
+        assert_eq!(rt; make(&mut table, 1, act)?, wanted);
+    }
+    let Reply::Peer(view) = ask(&mut table, 1, Command::PeerGet(five))? else {
+        panic!(rt; "peer-get shows the peer");
+    };
+    let counts = view.counts;
+    assert_eq!(rt; [counts.link_rx_packets, counts.link_rx_bytes], [4, 176]);
+    assert_eq!(rt; [counts.vpn_rx_packets, counts.vpn_rx_bytes], [1, 20]);
+    assert_eq!(rt; [counts.link_tx_packets, counts.link_tx_bytes], [2, 88]);
+    assert_eq!(rt; [counts.vpn_tx_packets, counts.vpn_tx_bytes], [1, 20]);
+    assert_eq!(rt; Some(view.remote), free);
+    ask(&mut table, 1, Command::Remove(five, Reason::Userspace))?;
+    let late = settle(None, InnerKind::From(Addr::V4([10, 8, 0, 5])));
+    assert_eq!(rt;
+        make(&mut table, 1, late)?,
+        Reply::Settled(Settled::NotOwner)
+    );
+    assert_eq!(rt; make(&mut table, 1, sent(false))?, Reply::Done);
     Ok(())
 }

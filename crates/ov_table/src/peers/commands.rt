@@ -1,0 +1,175 @@
+//! The commands of the netlink family.
+
+ghost use Rattle.std.specs.Prelude.{◌≡◌, ◌≤◌, ◌<◌, ◌+◌, length, slice_get, IfOk, OnOk, OnErr};
+ghost use Rattle.ov_model.specs.Step as model;
+ghost use Rattle.ov_table.specs.Outcomes.{outcome};
+ghost use Rattle.ov_table.specs.Recorded.{unreleased};
+
+use super::Peers;
+use crate::find;
+use crate::outcome::Outcome;
+use crate::peer::Peer;
+use crate::retired::{retire, retire_all};
+use crate::room::push_within;
+use ov_base::{ListOf, Memory};
+use ov_keys::KeyRec;
+use ov_model::{Attrs, Command, Errno, KeyConf, NoteBody, PeerId, Reason, Reply};
+
+/// How many peers may be made.
+const MOST_PEERS: u32 = 4096;
+
+/// How many keys may be made.
+const MOST_KEYS: u32 = 65536;
+
+impl Peers {
+    /// One command at the moment `now`.
+    pub fn command(&mut self, now: u32, command: &Command) -> Result<Outcome, Memory>
+        ensures ok { IfOk result (λ o. outcome self.new o.reply o.note o.first o.second ≡ model.command_step self.old now command.now) }
+        ensures kept { IfOk result (λ o. o.kept ≡ o.reply) }
+        ensures more { OnOk result (unreleased self.new ≤ unreleased self.old + 2) }
+        ensures err { OnErr result (self.new ≡ self.old) }
+    {
+        match *command {
+            Command::PeerNew(attrs) => self.peer_new(now, &attrs),
+            Command::PeerGet(id) => Ok(self.peer_get(now, id)),
+            Command::Remove(id, reason) => self.remove(now, id, reason),
+            Command::KeyNew(conf) => self.key_new(now, &conf),
+        }
+    }
+
+    /// peer-new. Refused in this order: without a remote or a VPN address it is invalid; the id, a VPN
+    /// address or the remote of another live peer exists; and then there may be no space.
+    #[tactic(auto, unfolding(ov_model::specs::Step::peer_new))]
+    fn peer_new(&mut self, now: u32, attrs: &Attrs) -> Result<Outcome, Memory>
+        ensures ok { IfOk result (λ o. outcome self.new o.reply o.note o.first o.second ≡ model.peer_new self.old now attrs.now) }
+        ensures kept { IfOk result (λ o. o.kept ≡ o.reply) }
+        ensures more { OnOk result (unreleased self.new ≤ unreleased self.old + 2) }
+        ensures err { OnErr result (self.new ≡ self.old) }
+    {
+        let Some(remote) = attrs.remote else {
+            return Ok(self.refuse(now, Errno::Invalid));
+        };
+        if attrs.vpn4.is_none() && attrs.vpn6.is_none() {
+            return Ok(self.refuse(now, Errno::Invalid));
+        }
+        if find::with_id(&self.live, attrs.id).is_some()
+            || find::shares_vpn(&self.live, attrs)
+            || find::with_remote(&self.live, remote).is_some()
+        {
+            return Ok(self.refuse(now, Errno::Exists));
+        }
+        if self.made >= MOST_PEERS {
+            return Ok(self.refuse(now, Errno::NoSpace));
+        }
+        self.live.push(Peer::new(self.made, now, attrs, remote))?;
+        let serial = self.made;
+        self.made += 1;
+        self.moment = now;
+        Ok(Outcome::plain(Reply::Made(serial), Reply::Made(serial)))
+    }
+
+    /// peer-get: what the live peer with an id is, refused where there is none.
+    #[tactic(auto, unfolding(ov_model::specs::Step::peer_get))]
+    fn peer_get(&mut self, now: u32, id: PeerId) -> Outcome
+        ensures value { outcome self.new result.reply result.note result.first result.second ≡ model.peer_get self.old now id }
+        ensures kept { result.kept ≡ result.reply }
+        ensures same { unreleased self.new ≡ unreleased self.old }
+    {
+        self.moment = now;
+        match find::with_id(&self.live, id) {
+            Some(peer) => Outcome::plain(Reply::Peer(peer.view()), Reply::Peer(peer.view())),
+            None => Outcome::plain(
+                Reply::Refused(Errno::NoEntry),
+                Reply::Refused(Errno::NoEntry),
+            ),
+        }
+    }
+
+    /// The removal of the live peer with an id, refused where there is none: it joins the dying ones, the
+    /// keys of its slots join the retired ones, and the note tells its id and the reason.
+    #[tactic(auto, unfolding(ov_model::specs::Step::remove_peer))]
+    fn remove(&mut self, now: u32, id: PeerId, reason: Reason) -> Result<Outcome, Memory>
+        ensures ok { IfOk result (λ o. outcome self.new o.reply o.note o.first o.second ≡ model.remove_peer self.old now id reason) }
+        ensures kept { IfOk result (λ o. o.kept ≡ o.reply) }
+        ensures more { OnOk result (unreleased self.new ≤ unreleased self.old + 2) }
+        ensures err { OnErr result (self.new ≡ self.old) }
+    {
+        let Some(place) = find::place_of_id(&self.live, id) else {
+            return Ok(self.refuse(now, Errno::NoEntry));
+        };
+        self.remove_at(now, place, reason)
+    }
+
+    /// The same for the live peer at a place of the list.
+    fn remove_at(&mut self, now: u32, place: usize, reason: Reason) -> Result<Outcome, Memory>
+        requires { place < length self.old.live }
+        ensures ok { IfOk result (λ o. outcome self.new o.reply o.note o.first o.second ≡ model.removed_found self.old now reason place (slice_get self.old.live place)) }
+        ensures kept { IfOk result (λ o. o.kept ≡ o.reply) }
+        ensures more { OnOk result (unreleased self.new ≤ unreleased self.old + 2) }
+        ensures err { OnErr result (self.new ≡ self.old) }
+    {
+        let serial = self.live[place].serial;
+        let reply = Reply::Removed(ListOf::of_vec(Vec::from_slice(self.alloc, &[serial])?));
+        let kept = Reply::Removed(ListOf::of_vec(Vec::from_slice(self.alloc, &[serial])?));
+        self.dying.reserve(1)?;
+        self.retired.reserve(2)?;
+        let mut peer = self.live.remove(place);
+        let (first, second) = retire_all(&mut self.retired, &mut peer.slots);
+        let note = Some(NoteBody::PeerDel {
+            id: peer.id,
+            reason,
+        });
+        push_within(&mut self.dying, peer);
+        self.moment = now;
+        Ok(Outcome {
+            reply,
+            kept,
+            note,
+            first,
+            second,
+        })
+    }
+
+    /// key-new: the key stands in its slot, and a key that stood there is retired. Refused where no live
+    /// peer has the id, and then there may be no space.
+    #[tactic(auto, unfolding(ov_model::specs::Step::key_new))]
+    fn key_new(&mut self, now: u32, conf: &KeyConf) -> Result<Outcome, Memory>
+        ensures ok { IfOk result (λ o. outcome self.new o.reply o.note o.first o.second ≡ model.key_new self.old now conf.now) }
+        ensures kept { IfOk result (λ o. o.kept ≡ o.reply) }
+        ensures more { OnOk result (unreleased self.new ≤ unreleased self.old + 2) }
+        ensures err { OnErr result (self.new ≡ self.old) }
+    {
+        let Some(place) = find::place_of_id(&self.live, conf.peer) else {
+            return Ok(self.refuse(now, Errno::NoEntry));
+        };
+        self.key_new_at(now, place, conf)
+    }
+
+    /// The same for the live peer at a place of the list.
+    #[tactic(auto, using(crate::proofs::Outcomes::one_taken))]
+    fn key_new_at(&mut self, now: u32, place: usize, conf: &KeyConf) -> Result<Outcome, Memory>
+        requires { place < length self.old.live }
+        ensures ok { IfOk result (λ o. outcome self.new o.reply o.note o.first o.second ≡ model.key_new_found self.old now conf.now place (slice_get self.old.live place)) }
+        ensures kept { IfOk result (λ o. o.kept ≡ o.reply) }
+        ensures more { OnOk result (unreleased self.new ≤ unreleased self.old + 2) }
+        ensures err { OnErr result (self.new ≡ self.old) }
+    {
+        if self.keys_made >= MOST_KEYS {
+            return Ok(self.refuse(now, Errno::NoSpace));
+        }
+        let serial = self.keys_made;
+        let key = KeyRec::of(self.alloc, serial, conf)?;
+        self.retired.reserve(1)?;
+        let was = self.live[place].install(conf.slot, key);
+        let first = retire(&mut self.retired, was);
+        self.keys_made += 1;
+        self.moment = now;
+        Ok(Outcome {
+            reply: Reply::Made(serial),
+            kept: Reply::Made(serial),
+            note: None,
+            first,
+            second: None,
+        })
+    }
+}
