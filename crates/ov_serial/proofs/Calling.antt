@@ -40,7 +40,7 @@ use Rattle.ov_serial.specs.declared.past.Mark.TheVariants as mark
 use Rattle.ov_serial.specs.Desks.{Serial, shown_of, next_of, waiting, owing_of, material_of_desk, events_of, steps_marked, debt, killed_by, Ready, StandSound, HoldSound, IsHeldSound, Sound, HasStepped, Happened, SpentIsDry, SameNext, step_made, after_step}
 use Rattle.ov_serial.proofs.Marks.{shown_stepped, marked_step}
 use Rattle.ov_serial.proofs.Acts.{get_or_more, keys_made_by, Holds, Looks, tx_looks, rx_looks, sent_done, SettledReply, settle_says, Few, command_few}
-use Rattle.ov_serial.proofs.Installed.{key_of_more, key_below}
+use Rattle.ov_serial.proofs.KeysKept.{key_of_more, key_below}
 
 -- ---- small facts
 

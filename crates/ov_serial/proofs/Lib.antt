@@ -1,5 +1,7 @@
 pub mod Marks
 pub mod Acts
-pub mod Installed
+pub mod KeysKept
 pub mod Calling
 pub mod Steps
+pub mod Marking
+pub mod Giving

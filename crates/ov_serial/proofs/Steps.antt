@@ -35,7 +35,7 @@ use Rattle.ov_table.specs.Recorded.{Recorded, stepped, IsTold}
 use Rattle.ov_table.proofs.Told.{told_step}
 use Rattle.ov_serial.specs.Desks.{Serial, shown_of, next_of, waiting, owing_of, material_of_desk, killed_by, Ready, HoldSound, IsHeldSound, Sound, step_made, after_step}
 use Rattle.ov_serial.proofs.Acts.{Holds, Looks, tx_looks, rx_looks, sent_done, SettledReply, settle_says, Few, command_few}
-use Rattle.ov_serial.proofs.Installed.{key_of_more, key_below}
+use Rattle.ov_serial.proofs.KeysKept.{key_of_more, key_below}
 use Rattle.ov_serial.proofs.Calling.{no_peers, NoneWaits, none_waits, nothing_waits, seen, MaySpend, may_spend, may_call, made_now, CallDone, step_done, events_stepped, material_grows}
 
 -- ---- a desk that is free

@@ -1,6 +1,6 @@
 -- The desk at which one line after another stands: what it keeps, what it shows of the present line, and
 -- what an event makes of it.
-use Rattle.std.specs.Prelude.{ℕ, ◌+◌, ◌%◌, ◌≡◌, ◌≤◌, ◌<◌, ⊤, List, [], ◌∷◌, ◌++◌, length, map, drop, get_or, slice_get, slice_set, Bool, true, Option, Some}
+use Rattle.std.specs.Prelude.{ℕ, ◌+◌, ◌-◌, ◌%◌, nat_lt, if◌then◌else◌, None, ◌≡◌, ◌≤◌, ◌<◌, ⊤, List, [], ◌∷◌, ◌++◌, length, map, drop, get_or, slice_get, slice_set, Bool, true, Option, Some}
 use Rattle.std.specs.List.{list_any}
 use Rattle.ov_base.specs.declared.address.Addr.{Addr}
 use Rattle.ov_model.specs.declared.place.Place.{Place}
@@ -9,6 +9,8 @@ use Rattle.ov_model.specs.declared.act.Act.TheVariants as act
 use Rattle.ov_model.specs.declared.act.Call.{Call}
 use Rattle.ov_model.specs.declared.draw.Drawn.{Drawn}
 use Rattle.ov_model.specs.declared.draw.Drawn.TheVariants as drawn
+use Rattle.ov_model.specs.declared.hold.Given.{Given}
+use Rattle.ov_model.specs.declared.hold.Given.TheVariants as given
 use Rattle.ov_model.specs.declared.hold.Owed.{Owed}
 use Rattle.ov_model.specs.declared.hold.Owed.TheVariants as owed
 use Rattle.ov_model.specs.declared.replay.ReplayEntry.{ReplayEntry}
@@ -25,8 +27,8 @@ use Rattle.ov_model.specs.Replay.{judged}
 use Rattle.ov_replay.specs.History.{History}
 use Rattle.ov_model.specs.declared.reply.Reply.{Reply}
 use Rattle.ov_model.proofs.KeysTaken.{key_made_by}
-use Rattle.ov_path.specs.Desks.{Shown, Holding, NoHold, Both, PeerLeft, held_after}
-use Rattle.ov_table.specs.Recorded.{Recorded, stepped, entry_of, IsTold}
+use Rattle.ov_path.specs.Desks.{Shown, Holding, NoHold, Both, PeerLeft, held_after, peer_left}
+use Rattle.ov_table.specs.Recorded.{Recorded, stepped, entry_of, IsTold, first_waiting}
 use Rattle.ov_serial.specs.declared.past.Mark.{Mark}
 use Rattle.ov_serial.specs.declared.past.Mark.TheVariants as mark
 
@@ -163,6 +165,64 @@ after_step d place call r = record d {
   room = 8;
   hold = held_after d.hold call.act r;
 }
+
+-- After a replay step, which the shard of the key has made.
+abbrev pub judgement_at : History → Place → (key id at : ℕ) → Judgement
+judgement_at shard place key id at = record { place = place; key = key; id = id; at = at; verdict = (judged shard.entries place key id at).verdict }
+
+abbrev pub after_judged : Serial → History → Place → (key id at : ℕ) → Serial
+after_judged d shard place key id at = record d {
+  shards = slice_set d.shards (key % 8) (record shard { entries = shard.entries ++ judged shard.entries place key id at ∷ [] });
+  marks = d.marks ++ mark.Judged (record { place = place; key = key; id = id; at = at; verdict = (judged shard.entries place key id at).verdict }) ∷ [];
+  room = 8;
+}
+
+-- What a counter gives, and what it gives next: 4294967295 is its last id.
+abbrev pub drawn_of : ℕ → Drawn
+drawn_of next = if nat_lt next 4294967296 then drawn.Id next else drawn.Spent
+
+abbrev pub next_after : ℕ → ℕ
+next_after next = if nat_lt next 4294967296 then next + 1 else next
+
+abbrev pub after_draw : Serial → ℕ → Serial
+after_draw d key = record d {
+  next = slice_set d.next key (next_after (next_of d key));
+  marks = d.marks ++ mark.Drew key (drawn_of (next_of d key)) ∷ [];
+  room = d.room - 1;
+}
+
+-- After the give-backs. The key's is the last where the line itself took it out of its slot.
+abbrev pub given_where : Option Owed → Given
+given_where None = given.More
+given_where (Some o) = given.Last
+
+abbrev pub after_key : Serial → ℕ → Serial
+after_key d key = record d {
+  hold = peer_left d.hold;
+  marks = d.marks ++ mark.GaveKey key (given_where (first_waiting d.table.now)) ∷ [];
+  room = d.room - 1;
+}
+
+abbrev pub after_peer : Serial → ℕ → Serial
+after_peer d peer = record d { hold = NoHold; marks = d.marks ++ mark.GavePeer peer given.More ∷ []; room = d.room - 1 }
+
+-- What a line owes first: nothing while it holds a key.
+abbrev pub owed_by : Holding → Option Owed → Option Owed
+owed_by NoHold o = o
+owed_by (Both h) o = None
+owed_by (PeerLeft h) o = o
+
+-- After a release.
+abbrev pub release_call : ℕ → Owed → Call
+release_call at (owed.Peer p) = record { at = at; act = act.Released p }
+release_call at (owed.Key k) = record { at = at; act = act.KeyReleased k }
+
+abbrev pub after_release : Serial → Place → ℕ → Owed → Serial
+after_release d place at o = record d { table = stepped d.table place (release_call at o); marks = d.marks ++ mark.Stepped ∷ []; room = d.room - 1 }
+
+-- When a line begins: its events are those from here on.
+abbrev pub after_begin : Serial → Serial
+after_begin d = record d { marks = []; start = length d.table.journal }
 
 -- ---- what it keeps true
 

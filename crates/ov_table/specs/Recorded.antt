@@ -1,12 +1,14 @@
 -- The peer table together with its record: what it is now, its journal and its notes.
-use Rattle.std.specs.Prelude.{ℕ, ◌+◌, ◌≡◌, List, [], ◌∷◌, ◌++◌, length, Bool, true, false}
+use Rattle.std.specs.Prelude.{ℕ, ◌+◌, ◌≡◌, List, [], ◌∷◌, ◌++◌, length, Bool, true, false, Option, Some, None}
 use Rattle.ov_model.specs.declared.place.Place.{Place}
 use Rattle.ov_model.specs.declared.act.Act.{Act}
 use Rattle.ov_model.specs.declared.act.Act.TheVariants as act
 use Rattle.ov_model.specs.declared.act.Call.{Call}
 use Rattle.ov_model.specs.declared.entry.Entry.{Entry}
 use Rattle.ov_model.specs.declared.note.Note.{Note}
-use Rattle.ov_model.specs.Tables.{Table, empty_table}
+use Rattle.ov_model.specs.declared.hold.Owed.{Owed}
+use Rattle.ov_model.specs.declared.hold.Owed.TheVariants as owed
+use Rattle.ov_model.specs.Tables.{Key, Peer, Table, empty_table}
 use Rattle.ov_model.specs.Step.{step}
 use Rattle.ov_model.specs.Runs.{IsRun, last_table, notes_of, numbered}
 
@@ -45,3 +47,12 @@ is_release _ = false
 -- How many releases may come before another step: of the peers, and of the keys that are out of their slots.
 abbrev pub unreleased : Table → ℕ
 unreleased t = length t.live + length t.dying + length t.retired
+
+-- What may be let go first: the first of the retired keys, or else the first of the dying peers.
+abbrev pub waiting_of : List Key → List Peer → Option Owed
+waiting_of (k ∷ keys) peers = Some (owed.Key k.serial)
+waiting_of [] (p ∷ peers) = Some (owed.Peer p.serial)
+waiting_of [] [] = None
+
+abbrev pub first_waiting : Table → Option Owed
+first_waiting t = waiting_of t.retired t.dying

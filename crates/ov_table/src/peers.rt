@@ -7,7 +7,7 @@ ghost use Rattle.ov_model.specs.Step as model;
 ghost use Rattle.ov_model.specs.Tables.{empty_table};
 ghost use Rattle.ov_table.specs.Outcomes.{outcome};
 ghost use Rattle.ov_table.specs.Pairs.{pair_in};
-ghost use Rattle.ov_table.specs.Recorded.{unreleased, is_release};
+ghost use Rattle.ov_table.specs.Recorded.{unreleased, is_release, first_waiting};
 
 mod commands;
 mod looks;
@@ -19,7 +19,7 @@ use crate::outcome::Outcome;
 use crate::peer::Peer;
 use ov_base::Memory;
 use ov_keys::{KeyPair, KeyRec};
-use ov_model::{Act, Errno, Reply};
+use ov_model::{Act, Errno, Owed, Reply};
 use std::alloc::Global;
 use std::marker::Model;
 
@@ -100,6 +100,17 @@ impl Peers {
         ensures { result ≡ (model.is_there peer self.now.live || model.is_there peer self.now.dying) }
     {
         find::has_serial(&self.live, peer) || find::has_serial(&self.dying, peer)
+    }
+
+    /// What may be let go first: a retired key, or else a dying peer.
+    pub fn waiting(&self) -> Option<Owed>
+        ensures { result ≡ first_waiting self.now }
+    {
+        match (self.retired.first(), self.dying.first()) {
+            (Some(key), _) => Some(Owed::Key(key.serial)),
+            (None, Some(peer)) => Some(Owed::Peer(peer.serial)),
+            (None, None) => None,
+        }
     }
 
     /// What the key with a serial seals and opens with, where it is in a slot of a live peer or retired.

@@ -9,13 +9,13 @@ ghost use Rattle.ov_model.specs.Runs.{numbered};
 ghost use Rattle.ov_model.specs.Step.{step, May, may_act};
 ghost use Rattle.ov_table.specs.Outcomes.{note_list, serial_list};
 ghost use Rattle.ov_table.specs.Pairs.{pair_in};
-ghost use Rattle.ov_table.specs.Recorded.{no_steps, stepped, IsTold, is_release};
+ghost use Rattle.ov_table.specs.Recorded.{no_steps, stepped, IsTold, is_release, first_waiting};
 
 use crate::peers::Peers;
 use crate::room::push_within;
 use ov_base::{ListOf, Memory};
 use ov_keys::KeyPair;
-use ov_model::{Act, Call, Entry, Note, NoteBody, Place, Reply};
+use ov_model::{Act, Call, Entry, Note, NoteBody, Owed, Place, Reply};
 use std::alloc::Global;
 use std::marker::Model;
 
@@ -173,6 +173,15 @@ impl Table {
         ensures { result.now ≡ self.now.taken }
     {
         self.taken.as_slice()
+    }
+
+    /// What may be let go first once nobody holds it: the first of the retired keys, in the order in which
+    /// they left their slots, or else the first of the removed peers. `None` comes exactly where every peer
+    /// and key that is gone was let go.
+    pub fn waiting(&self) -> Option<Owed>
+        ensures { result ≡ first_waiting self.now.now }
+    {
+        self.peers.waiting()
     }
 
     /// The entries of the steps so far. They are a run that ends with the present table.

@@ -1,0 +1,238 @@
+-- What the give-backs, the releases and a new line make of the desk.
+use Rattle.std.proofs.Common.{ℕ, ◌≡◌, ◌+◌, ◌-◌, ◌≤◌, ◌<◌, ◌⊎◌, inl, inr, List, [], ◌∷◌, ◌++◌, length, refl, sym, ◌∙◌, ap, subst, arith, append-nil, zero, suc, length-append, Bool, true, false}
+use Rattle.std.specs.Prelude.{map, max, drop, Option, Some, None, ⊤}
+use Rattle.ov_model.specs.declared.place.Place.{Place}
+use Rattle.ov_model.specs.declared.act.Act.TheVariants as act
+use Rattle.ov_model.specs.declared.act.Call.{Call}
+use Rattle.ov_model.specs.declared.hold.Given.{Given}
+use Rattle.ov_model.specs.declared.hold.Given.TheVariants as given
+use Rattle.ov_model.specs.declared.hold.Owed.{Owed}
+use Rattle.ov_model.specs.declared.hold.Owed.TheVariants as owed
+use Rattle.ov_model.specs.declared.reply.HoldView.{HoldView}
+use Rattle.ov_model.specs.declared.stand.Stand.{Stand}
+use Rattle.ov_model.specs.declared.stand.Stand.TheVariants as stand
+use Rattle.ov_model.specs.declared.stand.Use.{Use}
+use Rattle.ov_model.specs.declared.stand.Use.TheVariants as used
+use Rattle.ov_model.specs.Tables.{Peer, Key, Table, key_serials}
+use Rattle.ov_model.specs.Step.{step, may_act, released, key_released}
+use Rattle.ov_model.specs.Events.{Event, Stepped, GaveKey, GavePeer, Step, steps_of, release_of}
+use Rattle.ov_model.specs.Next.{see, stand_of}
+use Rattle.ov_model.proofs.Removing.{serials, LetsGo, lets_go, LetsKeyGo, lets_key_go}
+use Rattle.ov_path.specs.Desks.{Shown, Holding, NoHold, Both, PeerLeft, HoldsKey, LeftPeer, peer_left, owed_if, first_owed, after_first}
+use Rattle.ov_table.specs.Recorded.{Recorded, stepped, entry_of, IsTold, first_waiting, waiting_of}
+use Rattle.ov_table.proofs.Told.{told_step}
+use Rattle.ov_serial.specs.declared.past.Mark.TheVariants as mark
+use Rattle.ov_serial.specs.Desks.{Serial, shown_of, next_of, waiting, owing_of, material_of_desk, events_of, line_steps, steps_marked, debt, killed_by, HoldSound, IsHeldSound, Sound, Happened, step_made, owed_by, given_where, after_key, after_peer, release_call, after_release, after_begin}
+use Rattle.ov_serial.proofs.Marks.{shown_stepped, shown_marked, marked_step, marked_other, length-steps_of}
+use Rattle.ov_serial.proofs.Calling.{no_peers, nothing_waits, seen}
+use Rattle.ov_serial.proofs.Marking.{MarkDone, shown_by}
+use Rattle.ov_serial.proofs.Acts.{keys_made_by}
+
+-- ---- what waits
+
+first_of : (ks : List Key) (ps : List Peer) → first_owed (map owed.Key (key_serials ks) ++ map owed.Peer (map (λ p. p.serial) ps)) ≡ waiting_of ks ps
+first_of [] [] = refl
+first_of [] (p ∷ ps) = refl
+first_of (k ∷ ks) ps = refl
+
+pub first_waits : (t : Table) → first_owed (waiting t) ≡ first_waiting t
+first_waits t = first_of t.retired t.dying
+
+-- What the desk answers as owed: nothing while the key is held.
+pub owed_first : (h : Holding) (t : Table) → first_owed (owing_of h t) ≡ owed_by h (first_waiting t)
+owed_first NoHold t = first_waits t
+owed_first (Both h) t = refl
+owed_first (PeerLeft h) t = first_waits t
+
+-- ---- the key
+
+-- The key that is given back is the last where the line took it out of its slot, and then it waits.
+pub record KeyBack (t : Table) (key : ℕ) : Type 0 where
+  pub waits : waiting t ≡ owed_if (given_where (first_waiting t)) (owed.Key key)
+
+key_waits : (t : Table) (key : ℕ) (ks : List ℕ) → key_serials t.retired ≡ ks → t.dying ≡ [] → (ks ≡ []) ⊎ (ks ≡ key ∷ []) → KeyBack t key
+key_waits t key ks is none which =
+    let all : waiting t ≡ map owed.Key ks ++ [] = rw (is, none) refl in
+    elim which [
+      | inl e ↦
+          let no : waiting t ≡ [] = all ∙ rw e refl in
+          let first : first_waiting t ≡ None = sym (first_waits t) ∙ rw no refl in
+          record { waits = no ∙ rw first refl }
+      | inr e ↦
+          let one : waiting t ≡ owed.Key key ∷ [] = all ∙ rw e refl in
+          let first : first_waiting t ≡ Some (owed.Key key) = sym (first_waits t) ∙ rw one refl in
+          record { waits = one ∙ rw first refl }
+    ]
+
+killed_which : (h : HoldView) (s : Stand) → (killed_by h s ≡ []) ⊎ (killed_by h s ≡ h.key ∷ [])
+killed_which h stand.Fresh = inl refl
+killed_which h stand.Replied = inl refl
+killed_which h stand.Missed = inl refl
+killed_which h (stand.Looked v) = inl refl
+killed_which h (stand.Drew v d) = inl refl
+killed_which h (stand.Judged v) = inl refl
+killed_which h (stand.Used v (used.Sealed n)) = inl refl
+killed_which h (stand.Used v (used.Spent true)) = inr refl
+killed_which h (stand.Used v (used.Spent false)) = inl refl
+killed_which h (stand.Used v used.BadTag) = inl refl
+killed_which h (stand.Used v (used.Refused x)) = inl refl
+killed_which h (stand.Used v (used.Settled x)) = inl refl
+killed_which h (stand.KeyGiven v u) = inl refl
+killed_which h (stand.PeerGiven v u) = inl refl
+
+-- A hold on both whose key is given back.
+record LeavesKey (d : Serial) (hold : Holding) (s : Stand) (key : ℕ) : Type 0 where
+  owing : owing_of (peer_left hold) d.table.now ≡ owing_of hold d.table.now ++ owed_if (given_where (first_waiting d.table.now)) (owed.Key key)
+  few : length (owing_of (peer_left hold) d.table.now) ≤ 1
+  held : (e : Serial) (after : Stand) → e.table ≡ d.table → IsHeldSound e (peer_left hold) after
+  debt_now : (after : Stand) → debt (peer_left hold) after + 2 ≤ debt hold s
+
+few_given : (g : Given) (o : Owed) → length (owed_if g o) ≤ 1
+few_given given.More o = omega arith
+few_given given.Last o = omega arith
+
+both_debt : (h : HoldView) (s : Stand) → 3 ≤ debt (Both h) s
+both_debt h stand.Fresh = omega arith
+both_debt h stand.Replied = omega arith
+both_debt h stand.Missed = omega arith
+both_debt h (stand.Looked v) = omega arith
+both_debt h (stand.Drew v d) = omega arith
+both_debt h (stand.Judged v) = omega arith
+both_debt h (stand.Used v u) = omega arith
+both_debt h (stand.KeyGiven v u) = omega arith
+both_debt h (stand.PeerGiven v u) = omega arith
+
+leaves_key : (d : Serial) (hold : Holding) (s : Stand) (key : ℕ) → IsHeldSound d hold s → HoldsKey hold key → LeavesKey d hold s key
+leaves_key d (Both h) s key held names =
+    let which : (killed_by h s ≡ []) ⊎ (killed_by h s ≡ key ∷ []) = subst (λ k. (killed_by h s ≡ []) ⊎ (killed_by h s ≡ k ∷ [])) names (killed_which h s) in
+    let back : KeyBack d.table.now key = key_waits d.table.now key (killed_by h s) held.killed held.none_dying which in
+    let most : 3 ≤ debt (Both h) s = both_debt h s in
+    record {
+      owing = back.waits;
+      few = rw back.waits (few_given (given_where (first_waiting d.table.now)) (owed.Key key));
+      held = λ e after same. rw same held.none_dying;
+      debt_now = λ after. omega arith;
+    }
+leaves_key d NoHold s key held names = absurd names
+leaves_key d (PeerLeft h) s key held names = absurd names
+
+pub key_done : (d : Serial) (key : ℕ) → Sound d → HoldsKey d.hold key → MarkDone d (after_key d key) (GaveKey key (given_where (first_waiting d.table.now))) (peer_left d.hold) ((shown_of d).owing ++ owed_if (given_where (first_waiting d.table.now)) (owed.Key key))
+key_done d key sound names =
+    let e : Serial = after_key d key in
+    let g : Given = given_where (first_waiting d.table.now) in
+    let s : Stand = stand_of (shown_of d).events in
+    let leaves : LeavesKey d d.hold s key = leaves_key d d.hold s key sound.held names in
+    let events : (shown_of e).events ≡ (shown_of d).events ++ GaveKey key g ∷ [] = shown_marked d e (mark.GaveKey key g) (GaveKey key g) sound.marked refl refl refl refl in
+    let after : Stand = stand_of (shown_of e).events in
+    let marks : steps_marked e.marks ≡ steps_marked d.marks = marked_other d.marks (mark.GaveKey key g) refl in
+    let was : d.start + steps_marked d.marks ≡ length d.table.journal = sound.marked in
+    let spare : debt d.hold s + length (shown_of d).owing ≤ d.room = sound.spare in
+    let lower : debt (peer_left d.hold) after + 2 ≤ debt d.hold s = leaves.debt_now after in
+    let few : length (owing_of (peer_left d.hold) d.table.now) ≤ 1 = leaves.few in
+    record {
+      shown_is = shown_by e ((shown_of d).events ++ GaveKey key g ∷ []) ((shown_of d).owing ++ owed_if g (owed.Key key)) events leaves.owing;
+      done = record { makes = record { table = refl; shards = refl; next = λ k. refl }; first = refl; start = refl };
+      sound = record {
+        told = sound.told;
+        eight = sound.eight;
+        numbers = sound.numbers;
+        made = sound.made;
+        first = sound.first;
+        counters = sound.counters;
+        marked = omega arith;
+        spare = omega arith;
+        held = leaves.held e after refl;
+      };
+    }
+
+-- ---- the peer
+
+record LeavesPeer (hold : Holding) (t : Table) (s : Stand) : Type 0 where
+  owing : waiting t ≡ owing_of hold t ++ []
+  lower : 1 ≤ debt hold s
+
+leaves_peer : (hold : Holding) (t : Table) (s : Stand) (peer : ℕ) → LeftPeer hold peer → LeavesPeer hold t s
+leaves_peer (PeerLeft h) t s peer names = record { owing = sym (append-nil (waiting t)); lower = omega arith }
+leaves_peer NoHold t s peer names = absurd names
+leaves_peer (Both h) t s peer names = absurd names
+
+pub peer_done : (d : Serial) (peer : ℕ) → Sound d → LeftPeer d.hold peer → MarkDone d (after_peer d peer) (GavePeer peer given.More) NoHold ((shown_of d).owing ++ [])
+peer_done d peer sound names =
+    let e : Serial = after_peer d peer in
+    let s : Stand = stand_of (shown_of d).events in
+    let leaves : LeavesPeer d.hold d.table.now s = leaves_peer d.hold d.table.now s peer names in
+    let events : (shown_of e).events ≡ (shown_of d).events ++ GavePeer peer given.More ∷ [] = shown_marked d e (mark.GavePeer peer given.More) (GavePeer peer given.More) sound.marked refl refl refl refl in
+    let marks : steps_marked e.marks ≡ steps_marked d.marks = marked_other d.marks (mark.GavePeer peer given.More) refl in
+    let was : d.start + steps_marked d.marks ≡ length d.table.journal = sound.marked in
+    let spare : debt d.hold s + length (shown_of d).owing ≤ d.room = sound.spare in
+    let same : length (waiting d.table.now) ≡ length (shown_of d).owing = ap length (leaves.owing ∙ append-nil (owing_of d.hold d.table.now)) in
+    let lower : 1 ≤ debt d.hold s = leaves.lower in
+    record {
+      shown_is = shown_by e ((shown_of d).events ++ GavePeer peer given.More ∷ []) ((shown_of d).owing ++ []) events leaves.owing;
+      done = record { makes = record { table = refl; shards = refl; next = λ k. refl }; first = refl; start = refl };
+      sound = record {
+        told = sound.told;
+        eight = sound.eight;
+        numbers = sound.numbers;
+        made = sound.made;
+        first = sound.first;
+        counters = sound.counters;
+        marked = omega arith;
+        spare = omega arith;
+        held = tt;
+      };
+    }
+
+-- ---- a release
+
+-- The release of what waits first: it may be made, and the others wait on.
+pub record Releases (d : Serial) (place : Place) (at : ℕ) (o : Owed) : Type 0 where
+  pub may : may_act d.table.now (release_call at o).act ≡ true
+  pub step_is : step_made d.table place (release_call at o) ≡ release_of place at o
+  pub waits : waiting (step d.table.now (release_call at o)).after ≡ after_first (waiting d.table.now)
+  pub made : (step d.table.now (release_call at o)).after.keys_made ≡ d.table.now.keys_made
+  pub none_dying : d.table.now.dying ≡ [] → (step d.table.now (release_call at o)).after.dying ≡ []
+
+first_names : (ks ps : List ℕ) (o : Owed) → first_owed (map owed.Key ks ++ map owed.Peer ps) ≡ Some o → (ks ≡ []) ⊎ ((k : ℕ) × (rest : List ℕ) × (ks ≡ k ∷ rest) × (o ≡ owed.Key k))
+first_names [] ps o is = inl refl
+first_names (k ∷ ks) ps o is = inr (k, ks, refl, (let e : Some (owed.Key k) ≡ Some o = is in cc))
+
+first_peer : (ps : List ℕ) (o : Owed) → first_owed (map owed.Peer ps) ≡ Some o → (p : ℕ) × (rest : List ℕ) × (ps ≡ p ∷ rest) × (o ≡ owed.Peer p)
+first_peer [] o is = absurd (cc)
+first_peer (p ∷ ps) o is = (p, ps, refl, (let e : Some (owed.Peer p) ≡ Some o = is in cc))
+
+releases_key : (d : Serial) (place : Place) (at k : ℕ) (rest : List ℕ) → key_serials d.table.now.retired ≡ k ∷ rest → Releases d place at (owed.Key k)
+unfolding key_released
+releases_key d place at k rest is =
+    let now : ℕ = max d.table.now.moment at in
+    let l : LetsKeyGo d.table.now now k rest = lets_key_go d.table.now now k rest is in
+    let grown = keys_made_by d.table.now now (act.KeyReleased k) in
+    record {
+      may = l.may;
+      step_is = rw (l.reply_is, l.taken) refl;
+      waits = rw (l.others, l.dying, is) refl;
+      made = grown ∙ omega arith;
+      none_dying = λ none. l.dying ∙ none;
+    }
+
+releases_peer : (d : Serial) (place : Place) (at p : ℕ) (rest : List ℕ) → key_serials d.table.now.retired ≡ [] → serials d.table.now.dying ≡ p ∷ rest → Releases d place at (owed.Peer p)
+releases_peer d place at p rest none is =
+    let now : ℕ = max d.table.now.moment at in
+    let l : LetsGo d.table.now now p rest = lets_go d.table.now now p rest is in
+    let grown = keys_made_by d.table.now now (act.Released p) in
+    record {
+      may = l.may;
+      step_is = rw (l.reply_is, l.taken) refl;
+      waits = rw (l.others, l.retired, none, is) refl;
+      made = grown ∙ omega arith;
+      none_dying = λ empty. absurd (let e : ◌≡◌ {A = List ℕ} [] (p ∷ rest) = sym (ap serials empty) ∙ is in cc);
+    }
+
+pub releases_first : (d : Serial) (place : Place) (at : ℕ) (o : Owed) → first_owed (waiting d.table.now) ≡ Some o → Releases d place at o
+releases_first d place at o is =
+    elim (first_names (key_serials d.table.now.retired) (serials d.table.now.dying) o is) [
+      | inl none ↦
+          let w = first_peer (serials d.table.now.dying) o (rw (← (ap (λ ks. map owed.Key ks ++ map owed.Peer (serials d.table.now.dying)) none)) is) in
+          rw w.3 (releases_peer d place at w.0 w.1 none w.2)
+      | inr w ↦ rw w.3 (releases_key d place at w.0 w.1 w.2)
+    ]
