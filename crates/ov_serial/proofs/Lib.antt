@@ -1,3 +1,4 @@
 pub mod Since
 pub mod Rows
 pub mod Resting
+pub mod Reporting

@@ -1,5 +1,5 @@
 -- The desk between two lines: no line yet, and one more that was run and answered.
-use Rattle.std.proofs.Common.{ℕ, ◌≡◌, ◌+◌, ◌%◌, ◌<◌, ◌≤◌, List, [], ◌∷◌, ◌++◌, length, refl, sym, ◌∙◌, ap, subst, true, arith, inl, inr, ◌||◌}
+use Rattle.std.proofs.Common.{ℕ, ◌≡◌, ◌+◌, ◌%◌, ◌<◌, ◌≤◌, List, [], ◌∷◌, ◌++◌, length, refl, sym, ◌∙◌, ap, subst, false, true, get_or, arith, inl, inr, ◌||◌}
 use Rattle.std.specs.Prelude.{Option, Some, None, map, slice_get}
 use Rattle.std.specs.Option.{option_or}
 use Rattle.std.specs.List.{AllByRecursion, list_any}
@@ -14,7 +14,7 @@ use Rattle.ov_model.specs.declared.replay.ReplayEntry.{ReplayEntry}
 use Rattle.ov_model.specs.Tables.{Material, Table, empty_table}
 use Rattle.ov_model.specs.Step.{step}
 use Rattle.ov_model.specs.Runs.{last_table}
-use Rattle.ov_model.specs.Events.{Event, Step, Judgement, judgement_of, steps_after, steps_of, steps_in, judgements_in, draws_in}
+use Rattle.ov_model.specs.Events.{Event, Step, Judgement, judgement_of, shown_in, steps_after, steps_of, steps_in, judgements_in, draws_in}
 use Rattle.ov_model.specs.Path.{Path}
 use Rattle.ov_model.specs.Keys.{key_by, key_of, spends, sealed_ids, ids_under}
 use Rattle.ov_model.specs.Legal.{LaneMeets, LinesRise}
@@ -155,4 +155,43 @@ rested_line d0 d lines answers line a es was before sound since line_is path dra
       judged_within = done.within;
       rise = done.rise;
       counts = λ key. counts_line d0 d es answers a key (was.counts key) (since.counts key) since.goes drawn since.first (sound.counters key).1;
+    }
+
+-- ---- no line yet
+
+-- What holds of no steps holds of each shard of a new desk.
+new_shards : (P : List ReplayEntry → Type 0) (shards : List History) → P [] → AllByRecursion (λ s. s.entries ≡ []) shards → AllByRecursion P (histories shards)
+new_shards P [] one all = tt
+new_shards P (s ∷ shards) one all = (subst P (sym all.0) one, new_shards P shards one all.1)
+
+new_shown : (shards : List History) (line : ℕ) → AllByRecursion (λ s. s.entries ≡ []) shards → shown_in (histories shards) 0 line ≡ []
+new_shown [] line all = refl
+new_shown (s ∷ shards) line all = rw (all.0, new_shown shards line all.1) refl
+
+counts_new : (d : Serial) (key : ℕ) → d.table.journal ≡ [] → d.next ≡ [] → CountsAll d [] key
+counts_new d key journal next = record {
+  drawn = 0;
+  ids = refl;
+  next = ap (λ (ns : List ℕ). get_or ns key d.first) next ∙ omega arith;
+  dry = λ spent. let none : list_any (spends key) d.table.journal ≡ false = rw journal refl in cc;
+}
+
+pub rested_none : (d : Serial) (lines : List Line) → d.table.journal ≡ [] → AllByRecursion (λ s. s.entries ≡ []) d.shards → d.next ≡ [] → Rested d lines []
+rested_none d lines journal shards next =
+    let P : List Entry → Type 0 = λ es. LaneMeets (key_of es) itself (steps_of es) (histories d.shards) 0 lines [] [] [] in
+    let Q : List Entry → Type 0 = λ es. AllByRecursion (λ s. s.entry.place.lane < 1) (steps_of es) in
+    let none : P [] = record {
+      within = tt;
+      judged_within = new_shards (λ rs. AllByRecursion (λ r. r.place.lane ≡ 0 → r.place.line ≤ 0) rs) d.shards tt shards;
+      falls = tt;
+      each = λ i below. absurd (omega arith);
+      under_way = refl;
+      judging = new_shown d.shards 0 shards;
+    } in
+    record {
+      meets = subst P (sym journal) none;
+      within = subst Q (sym journal) tt;
+      judged_within = new_shards (λ rs. AllByRecursion (λ r. r.place.lane < 1) rs) d.shards tt shards;
+      rise = new_shards (LinesRise 0) d.shards tt shards;
+      counts = λ key. counts_new d key journal next;
     }
