@@ -1,6 +1,8 @@
 -- The report of one lane is legal for its script.
-use Rattle.std.proofs.Common.{ℕ, ◌≡◌, ◌+◌, ◌-◌, ◌<◌, ◌==◌, Bool, true, List, [], ◌∷◌, ◌++◌, length, refl, sym, ◌∙◌, ap, subst, zero, suc, arith, append-nil}
-use Rattle.std.specs.Prelude.{Some, None, map, slice_get}
+use Rattle.std.proofs.Common.{ℕ, ◌≡◌, ◌-◌, ◌<◌, ◌==◌, true, List, [], ◌∷◌, ◌++◌, length, refl, sym, ◌∙◌, ap, subst, zero, suc, arith, append-nil}
+use Rattle.std.specs.Prelude.{Option, Some, None, map, slice_get}
+use Rattle.std.specs.Option.{option_map}
+use Rattle.std.proofs.lemmas.Option.{slice_get-map}
 use Rattle.std.specs.List.{AllByRecursion}
 use Rattle.std.proofs.lemmas.List.{take_all, length-map}
 use Rattle.std.proofs.lemmas.Bool.Decides.{nat_tests}
@@ -11,7 +13,7 @@ use Rattle.ov_model.specs.declared.answer.Answer.{Answer}
 use Rattle.ov_model.specs.declared.replay.ReplayEntry.{ReplayEntry}
 use Rattle.ov_model.specs.declared.report.LaneLog.{LaneLog}
 use Rattle.ov_model.specs.declared.report.Report.{Report}
-use Rattle.ov_model.specs.Tables.{Peer, Key, Table, key_serials}
+use Rattle.ov_model.specs.Tables.{Peer, Key, key_serials}
 use Rattle.ov_model.specs.Events.{steps_of}
 use Rattle.ov_model.specs.Keys.{key_of, ids_of, ids_in, Rises, KeyCounts, IdsCount}
 use Rattle.ov_model.specs.Replay.{ShardJudges}
@@ -109,6 +111,18 @@ rises (suc lane) shards within rise = all_weaker (AllByRecursion (λ r. r.place.
 abbrev pub AllJudge : List (List ReplayEntry) → Type 0
 AllJudge shards = (k : ℕ) (rs : List ReplayEntry) → slice_get shards k ≡ Some rs → ShardJudges k rs
 
+-- The histories of shards that are numbered by their places.
+judge_at : (s : Option History) (k : ℕ) (rs : List ReplayEntry) → option_map (λ (h : History). h.entries) s ≡ Some rs → ((h : History) → s ≡ Some h → h.number ≡ k) → ((h : History) → s ≡ Some h → ShardJudges h.number h.entries) → ShardJudges k rs
+judge_at None k rs is number judge = absurd (let e : ◌≡◌ {A = Option (List ReplayEntry)} None (Some rs) = is in cc)
+judge_at (Some h) k rs is number judge =
+    let P : ℕ → Type 0 = λ n. ShardJudges n h.entries in
+    let its : h.entries ≡ rs = (let e : ◌≡◌ {A = Option (List ReplayEntry)} (Some h.entries) (Some rs) = is in cc) in
+    subst (ShardJudges k) its (subst P (number h refl) (judge h refl))
+
+pub all_judge : (shards : List History) → ((k : ℕ) (s : History) → slice_get shards k ≡ Some s → s.number ≡ k) → ((k : ℕ) (s : History) → slice_get shards k ≡ Some s → ShardJudges s.number s.entries) → AllJudge (histories shards)
+all_judge shards numbers judge k rs is =
+    judge_at (slice_get shards k) k rs (sym (slice_get-map (λ (s : History). s.entries) shards k) ∙ is) (λ s at. numbers k s at) (λ s at. judge k s at)
+
 pub shards_judge : (d : Serial) (lines : List Line) (answers : List Answer) → Rested d lines answers → length d.shards ≡ 8 → AllJudge (histories d.shards) → ShardsJudge (report_of d lines answers)
 shards_judge d lines answers rested eight judge = record {
   eight = length-map d.shards (λ (s : History). s.entries) ∙ eight;
@@ -150,3 +164,13 @@ legal_of d lines answers rested sound none judge all within = record {
   removals = noted d.table sound.told;
   released = let_go d.table sound.told none;
 }
+
+-- A report with these parts is the report of the desk.
+pub report_is : (d : Serial) (lines : List Line) (answers : List Answer) (report : Report) → report.lanes ≡ one_log lines answers ∷ [] → report.journal ≡ d.table.journal → report.notes ≡ d.table.notes → report.shards ≡ histories d.shards → report_of d lines answers ≡ report
+report_is d lines answers report lanes journal notes shards = λ i. record { lanes = sym lanes i; journal = sym journal i; notes = sym notes i; shards = sym shards i }
+
+pub legal_as : (d : Serial) (lines : List Line) (answers : List Answer) (first : ℕ) (report : Report) → report_of d lines answers ≡ report → d.first ≡ first → Rested d lines answers → Sound d → waiting d.table.now ≡ [] → AllJudge (histories d.shards) → length answers ≡ length lines → AllByRecursion (λ line. line.lane < 1) lines → Legal (record { lines = lines }) first report
+legal_as d lines answers first report is from rested sound none judge all within =
+    let P : Report → Type 0 = λ r. Legal (record { lines = lines }) d.first r in
+    let Q : ℕ → Type 0 = λ n. Legal (record { lines = lines }) n report in
+    subst Q from (subst P is (legal_of d lines answers rested sound none judge all within))

@@ -195,3 +195,20 @@ rested_none d lines journal shards next =
       rise = new_shards (LinesRise 0) d.shards tt shards;
       counts = λ key. counts_new d key journal next;
     }
+
+-- What the desk keeps of the lines before is the same: it rests as it did.
+pub rested_same : (d e : Serial) (lines : List Line) (answers : List Answer) → e.table ≡ d.table → e.shards ≡ d.shards → e.next ≡ d.next → e.first ≡ d.first → Rested d lines answers → Rested e lines answers
+rested_same d e lines answers table shards next first was =
+    let keeps : (key : ℕ) → next_of e key ≡ next_of d key = λ key. rw (next, first) refl in
+    record {
+      meets = rw (table, shards) was.meets;
+      within = rw table was.within;
+      judged_within = rw shards was.judged_within;
+      rise = rw shards was.rise;
+      counts = λ key. record {
+        drawn = (was.counts key).drawn;
+        ids = rw first (was.counts key).ids;
+        next = keeps key ∙ rw first (was.counts key).next;
+        dry = λ spent. keeps key ∙ (was.counts key).dry (rw (← table) spent);
+      };
+    }

@@ -21,7 +21,7 @@ use Rattle.ov_model.proofs.Lanes.{judged_in}
 use Rattle.ov_model.proofs.Counting.{counted, ids_under-append, draws_in-append}
 use Rattle.ov_replay.specs.History.{History}
 use Rattle.ov_table.specs.Recorded.{Recorded, entry_of, stepped}
-use Rattle.ov_serial.specs.Desks.{Serial, next_of, histories, SameNext, Draws, SpentIsDry, step_made, HasStepped, HasJudged, Happened}
+use Rattle.ov_serial.specs.Desks.{Serial, next_of, histories, SameNext, Draws, SpentIsDry, step_made, HasStepped, HasJudged, Happened, Sound}
 use Rattle.ov_serial.specs.Lines.{Goes, judged_all, JudgedBy, CountsOn, Since, NoneOver}
 
 -- ---- the table goes on
@@ -39,6 +39,9 @@ goes_on a b c ss ts g h = record {
   steps_are = steps_after-append a.now g.entries h.entries ∙ rw (g.steps_are, g.table_is, h.steps_are) refl;
   table_is = table_after-append a.now g.entries h.entries ∙ rw g.table_is h.table_is;
 }
+
+goes_stays : (old new : Recorded) → new ≡ old → Goes old new []
+goes_stays old new same = subst (λ r. Goes old r []) (sym same) (goes_none old)
 
 -- ---- the shards go on
 
@@ -170,6 +173,18 @@ since_none d = record {
   first = refl;
 }
 
+-- A line begins: what the desk keeps of earlier lines stays as it was.
+pub since_begins : (d e : Serial) → e.table ≡ d.table → e.shards ≡ d.shards → e.next ≡ d.next → e.first ≡ d.first → Since d e []
+since_begins d e table shards next first = record {
+  goes = goes_stays d.table e.table table;
+  judged = judged_none (histories d.shards) (histories e.shards) (ap histories shards);
+  counts = λ key. counts_none d e [] key refl refl (λ k. rw (next, first) refl);
+  first = first;
+}
+
+pub none_over : (d : Serial) → Sound d → NoneOver d
+none_over d sound = λ key. (sound.counters key).1
+
 pub since_on : (a b c : Serial) (es fs : List Event) → Since a b es → Since b c fs → NoneOver c → Since a c (es ++ fs)
 since_on a b c es fs g h over = record {
   goes = rw (steps_in-append es fs) (goes_on a.table b.table c.table (steps_in es) (steps_in fs) g.goes h.goes);
@@ -177,9 +192,6 @@ since_on a b c es fs g h over = record {
   counts = λ key. counts_on a b c es fs key (g.counts key) (h.counts key) (over key);
   first = h.first ∙ g.first;
 }
-
-goes_stays : (old new : Recorded) → new ≡ old → Goes old new []
-goes_stays old new same = subst (λ r. Goes old r []) (sym same) (goes_none old)
 
 goes_by : (old new : Recorded) (s : Step) → s ≡ step_made old s.entry.place s.entry.call → new ≡ stepped old s.entry.place s.entry.call → Goes old new (s ∷ [])
 goes_by old new s made is =
