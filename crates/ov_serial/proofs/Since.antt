@@ -21,7 +21,7 @@ use Rattle.ov_model.proofs.Lanes.{judged_in}
 use Rattle.ov_model.proofs.Counting.{counted, ids_under-append, draws_in-append}
 use Rattle.ov_replay.specs.History.{History}
 use Rattle.ov_table.specs.Recorded.{Recorded, entry_of, stepped}
-use Rattle.ov_serial.specs.Desks.{Serial, next_of, histories, SameNext, Draws, SpentIsDry, step_made, HasStepped, HasJudged, Happened, Sound}
+use Rattle.ov_serial.specs.Desks.{Serial, next_of, histories, SameNext, Draws, SpentIsDry, step_made, HasStepped, HasJudged, Happened, Sound, shown_of}
 use Rattle.ov_serial.specs.Lines.{Goes, judged_all, JudgedBy, CountsOn, Since, NoneOver}
 
 -- ---- the table goes on
@@ -236,3 +236,7 @@ since_one d (GavePeer given g) e h = record {
 -- One event more since the line began.
 pub since_event : (d0 d e : Serial) (es : List Event) (event : Event) → Since d0 d es → Happened d event e → NoneOver e → Since d0 e (es ++ event ∷ [])
 since_event d0 d e es event since h over = since_on d0 d e es (event ∷ []) since (since_one d event e h) over
+
+-- The same of what the desk shows.
+pub since_shown : (d0 d e : Serial) (event : Event) → Since d0 d (shown_of d).events → (shown_of e).events ≡ (shown_of d).events ++ event ∷ [] → Happened d event e → NoneOver e → Since d0 e (shown_of e).events
+since_shown d0 d e event since more h over = subst (Since d0 e) (sym more) (since_event d0 d e (shown_of d).events event since h over)
