@@ -5,3 +5,10 @@ pub mod Calling
 pub mod Steps
 pub mod Marking
 pub mod Giving
+pub mod Since
+pub mod Rows
+pub mod Resting
+pub mod Reporting
+pub mod KeySlots
+pub mod Installed
+pub mod Looking

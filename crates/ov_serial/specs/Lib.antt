@@ -1,2 +1,3 @@
 pub mod Pasts
 pub mod Desks
+pub mod Lines
