@@ -22,7 +22,7 @@ use Rattle.ov_path.specs.Desks.{Shown, Holding, NoHold, Both, PeerLeft, HoldsKey
 use Rattle.ov_table.specs.Recorded.{Recorded, stepped, entry_of, IsTold, first_waiting, waiting_of}
 use Rattle.ov_table.proofs.Told.{told_step}
 use Rattle.ov_serial.specs.declared.past.Mark.TheVariants as mark
-use Rattle.ov_serial.specs.Desks.{Serial, shown_of, next_of, waiting, owing_of, material_of_desk, events_of, line_steps, steps_marked, debt, killed_by, HoldSound, IsHeldSound, Sound, Happened, step_made, owed_by, given_where, after_key, after_peer, release_call, after_release, after_begin}
+use Rattle.ov_serial.specs.Desks.{Serial, shown_of, next_of, waiting, owing_of, material_of_desk, events_of, line_steps, steps_marked, debt, killed_by, HoldSound, IsHeldSound, Sound, Happened, SpentIsDry, step_made, owed_by, given_where, after_key, after_peer, release_call, after_release, after_begin}
 use Rattle.ov_serial.proofs.Marks.{shown_stepped, shown_marked, marked_step, marked_other, length-steps_of}
 use Rattle.ov_serial.proofs.Calling.{no_peers, nothing_waits, seen}
 use Rattle.ov_serial.proofs.Marking.{MarkDone, shown_by}
@@ -236,3 +236,102 @@ releases_first d place at o is =
           rw w.3 (releases_peer d place at w.0 w.1 none w.2)
       | inr w ↦ rw w.3 (releases_key d place at w.0 w.1 w.2)
     ]
+
+release_hold : (hold : Holding) (t : Table) (o : Owed) → first_owed (owing_of hold t) ≡ Some o → (hold ≡ NoHold) ⊎ ((h : HoldView) × (hold ≡ PeerLeft h))
+release_hold NoHold t o is = inl refl
+release_hold (PeerLeft h) t o is = inr (h, refl)
+release_hold (Both h) t o is = absurd (cc)
+
+-- Whatever a line holds while it owes something, it owes what waits.
+record OwesAll (d e : Serial) (hold : Holding) (after : Stand) : Type 0 where
+  owing : owing_of hold d.table.now ≡ waiting d.table.now
+  owing_now : owing_of hold e.table.now ≡ waiting e.table.now
+  debt_same : (s : Stand) → debt hold after ≡ debt hold s
+  held : IsHeldSound e hold after
+
+owes_all : (d e : Serial) (hold : Holding) (s after : Stand) (o : Owed) → first_owed (owing_of hold d.table.now) ≡ Some o → (d.table.now.dying ≡ [] → e.table.now.dying ≡ []) → IsHeldSound d hold s → OwesAll d e hold after
+owes_all d e NoHold s after o is dying held = record { owing = refl; owing_now = refl; debt_same = λ t. refl; held = tt }
+owes_all d e (PeerLeft h) s after o is dying held = record { owing = refl; owing_now = refl; debt_same = λ t. refl; held = dying held }
+owes_all d e (Both h) s after o is dying held = absurd (cc)
+
+shorter : (os : List Owed) (o : Owed) → first_owed os ≡ Some o → length (after_first os) + 1 ≡ length os
+shorter [] o is = absurd (cc)
+shorter (x ∷ os) o is = omega arith
+
+pub release_may : (d : Serial) (at : ℕ) (o : Owed) (place : Place) → Sound d → first_owed (shown_of d).owing ≡ Some o → may_act d.table.now (release_call at o).act ≡ true
+release_may d at o place sound is =
+    let all = owes_all d d d.hold (stand_of (shown_of d).events) (stand_of (shown_of d).events) o is (λ n. n) sound.held in
+    (releases_first d place at o (rw (← all.owing) is)).may
+
+release_dry : (d : Serial) (at : ℕ) (o : Owed) → SpentIsDry d (release_call at o).act
+release_dry d at (owed.Peer p) = tt
+release_dry d at (owed.Key k) = tt
+
+pub release_done : (d : Serial) (place : Place) (at : ℕ) (o : Owed) → Sound d → first_owed (shown_of d).owing ≡ Some o → MarkDone d (after_release d place at o) (Stepped (release_of place at o)) d.hold (after_first (shown_of d).owing)
+release_done d place at o sound is =
+    let e : Serial = after_release d place at o in
+    let call : Call = release_call at o in
+    let s : Stand = stand_of (shown_of d).events in
+    let before = owes_all d d d.hold s s o is (λ n. n) sound.held in
+    let releases : Releases d place at o = releases_first d place at o (rw (← before.owing) is) in
+    let after : Stand = stand_of (shown_of e).events in
+    let all : OwesAll d e d.hold after = owes_all d e d.hold s after o is releases.none_dying sound.held in
+    let events : (shown_of e).events ≡ (shown_of d).events ++ Stepped (step_made d.table place call) ∷ [] = shown_stepped d e place call sound.told.last sound.marked refl refl refl in
+    let events_are : (shown_of e).events ≡ (shown_of d).events ++ Stepped (release_of place at o) ∷ [] = events ∙ ap (λ x. (shown_of d).events ++ Stepped x ∷ []) releases.step_is in
+    let owing : (shown_of e).owing ≡ after_first (shown_of d).owing = all.owing_now ∙ releases.waits ∙ ap after_first (sym before.owing) in
+    let made : Happened d (Stepped (step_made d.table place call)) e = record {
+      makes = record { may = releases.may; step_is = refl; table = refl; shards = refl; next = λ k. refl; dry = release_dry d at o };
+      first = refl;
+      start = refl;
+    } in
+    let length_now : length (stepped d.table place call).journal ≡ length d.table.journal + 1 = length-append d.table.journal (entry_of d.table.now place call ∷ []) in
+    let marks : steps_marked e.marks ≡ steps_marked d.marks + 1 = marked_step d.marks in
+    let was : d.start + steps_marked d.marks ≡ length d.table.journal = sound.marked in
+    let spare : debt d.hold s + length (shown_of d).owing ≤ d.room = sound.spare in
+    let same : debt d.hold after ≡ debt d.hold s = all.debt_same s in
+    let fewer : length (after_first (shown_of d).owing) + 1 ≡ length (shown_of d).owing = shorter (shown_of d).owing o is in
+    let long : length (shown_of e).owing ≡ length (after_first (shown_of d).owing) = ap length owing in
+    record {
+      shown_is = shown_by e ((shown_of d).events ++ Stepped (release_of place at o) ∷ []) (after_first (shown_of d).owing) events_are owing;
+      done = subst (λ (x : Step). Happened d (Stepped x) e) releases.step_is made;
+      sound = record {
+        told = told_step d.table place call releases.may sound.told;
+        eight = sound.eight;
+        numbers = sound.numbers;
+        made = sound.made ∙ sym releases.made;
+        first = sound.first;
+        counters = sound.counters;
+        marked = omega arith;
+        spare = omega arith;
+        held = all.held;
+      };
+    }
+
+-- ---- a new line
+
+drop_all : {X : Type 0} (xs : List X) → drop (length xs) xs ≡ []
+drop_all [] = refl
+drop_all (x ∷ xs) = drop_all xs
+
+pub record Begun (d : Serial) : Type 0 where
+  pub shown_is : shown_of (after_begin d) ≡ record { events = []; hold = NoHold; owing = [] }
+  pub sound : Sound (after_begin d)
+
+pub begin_done : (d : Serial) → Sound d → d.hold ≡ NoHold → (shown_of d).owing ≡ [] → Begun d
+begin_done d sound free owes =
+    let e : Serial = after_begin d in
+    let P : Holding → List Owed → Shown = λ x y. record { events = []; hold = x; owing = y } in
+    record {
+      shown_is = ap (λ x. P x (shown_of d).owing) free ∙ ap (λ y. P NoHold y) owes;
+      sound = record {
+        told = sound.told;
+        eight = sound.eight;
+        numbers = sound.numbers;
+        made = sound.made;
+        first = sound.first;
+        counters = sound.counters;
+        marked = omega arith;
+        spare = (let none : length (shown_of e).owing ≡ 0 = ap length owes in let zero_debt : debt d.hold (stand_of (shown_of e).events) ≡ 0 = rw free refl in omega arith);
+        held = subst (λ (h : Holding). IsHeldSound e h (stand_of (shown_of e).events)) (sym free) tt;
+      };
+    }

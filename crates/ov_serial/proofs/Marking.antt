@@ -1,6 +1,6 @@
 -- What the other calls make of the desk: a replay step, a draw, the give-backs, a release, a new line.
 use Rattle.std.proofs.Common.{ℕ, ◌≡◌, ◌≢◌, ◌+◌, ◌-◌, ◌≤◌, ◌<◌, ◌%◌, ◌⊎◌, inl, inr, List, [], ◌∷◌, ◌++◌, length, get_or, refl, sym, ◌∙◌, ap, subst, arith, append-nil, zero, suc, Bool, true, false, nat_lt, if◌then◌else◌}
-use Rattle.std.specs.Prelude.{map, max, drop, Option, Some, None, ⊤, slice_get, slice_set}
+use Rattle.std.specs.Prelude.{map, max, drop, Option, Some, None, ⊤, slice_get, slice_set, slice_index_or}
 use Rattle.std.proofs.lemmas.Bool.{cases_eq, cases_lt, lt-ltb}
 use Rattle.std.proofs.lemmas.Bool.Decides.{nat_tests}
 use Rattle.ov_model.specs.declared.place.Place.{Place}
@@ -239,3 +239,25 @@ draw_done d key sound names looked =
         held = rw stand_is (draw_held d e d.hold (stand_of (shown_of d).events) key refl long dry sound.held names looked);
       };
     }
+
+-- ---- the same desk, and what a list has at a place
+
+pub same_desk : (e d : Serial) → e.table ≡ d.table → e.shards ≡ d.shards → e.first ≡ d.first → e.next ≡ d.next → e.marks ≡ d.marks → e.room ≡ d.room → e.start ≡ d.start → e.hold ≡ d.hold → e ≡ d
+same_desk e d table shards first next marks room start hold =
+    let F : Recorded → List History → ℕ → List ℕ → List Mark → ℕ → ℕ → Holding → Serial = λ t s f n m r b h. record { table = t; shards = s; first = f; next = n; marks = m; room = r; start = b; hold = h } in
+    ap (λ t. F t e.shards e.first e.next e.marks e.room e.start e.hold) table
+    ∙ ap (λ s. F d.table s e.first e.next e.marks e.room e.start e.hold) shards
+    ∙ ap (λ f. F d.table d.shards f e.next e.marks e.room e.start e.hold) first
+    ∙ ap (λ n. F d.table d.shards d.first n e.marks e.room e.start e.hold) next
+    ∙ ap (λ m. F d.table d.shards d.first d.next m e.room e.start e.hold) marks
+    ∙ ap (λ r. F d.table d.shards d.first d.next d.marks r e.start e.hold) room
+    ∙ ap (λ b. F d.table d.shards d.first d.next d.marks d.room b e.hold) start
+    ∙ ap (λ h. F d.table d.shards d.first d.next d.marks d.room d.start h) hold
+
+pub read_next : (xs : List ℕ) (k x d : ℕ) → k < length xs → x ≡ slice_index_or xs k x → x ≡ get_or xs k d
+read_next [] k x d below is = absurd (omega arith)
+read_next (y ∷ xs) zero x d below is = is
+read_next (y ∷ xs) (suc k) x d below is = read_next xs k x d (omega arith) is
+
+pub one_less : (now was : ℕ) → now + 1 ≡ was → now ≡ was - 1
+one_less now was is = omega arith

@@ -1,7 +1,7 @@
 -- The desk at which one line after another stands: what it keeps, what it shows of the present line, and
 -- what an event makes of it.
 use Rattle.std.specs.Prelude.{ℕ, ◌+◌, ◌-◌, ◌%◌, nat_lt, if◌then◌else◌, None, ◌≡◌, ◌≤◌, ◌<◌, ⊤, List, [], ◌∷◌, ◌++◌, length, map, drop, get_or, slice_get, slice_set, Bool, true, Option, Some}
-use Rattle.std.specs.List.{list_any}
+use Rattle.std.specs.List.{list_any, range_with_len}
 use Rattle.ov_base.specs.declared.address.Addr.{Addr}
 use Rattle.ov_model.specs.declared.place.Place.{Place}
 use Rattle.ov_model.specs.declared.act.Act.{Act}
@@ -28,7 +28,9 @@ use Rattle.ov_replay.specs.History.{History}
 use Rattle.ov_model.specs.declared.reply.Reply.{Reply}
 use Rattle.ov_model.proofs.KeysTaken.{key_made_by}
 use Rattle.ov_path.specs.Desks.{Shown, Holding, NoHold, Both, PeerLeft, held_after, peer_left}
-use Rattle.ov_table.specs.Recorded.{Recorded, stepped, entry_of, IsTold, first_waiting}
+use Rattle.ov_table.specs.Recorded.{Recorded, stepped, entry_of, IsTold, first_waiting, no_steps}
+use Rattle.ov_serial.specs.declared.holding.Hold.{Hold}
+use Rattle.ov_serial.specs.declared.holding.Hold.TheVariants as hold
 use Rattle.ov_serial.specs.declared.past.Mark.{Mark}
 use Rattle.ov_serial.specs.declared.past.Mark.TheVariants as mark
 
@@ -46,6 +48,12 @@ pub record Serial : Type 0 where
   pub room : ℕ
   pub start : ℕ
   pub hold : Holding
+
+-- What the desk holds, as a line sees it.
+abbrev pub holding : Hold → Holding
+holding hold.Nothing = NoHold
+holding (hold.Both h) = Both h
+holding (hold.PeerLeft h) = PeerLeft h
 
 -- The next id of a key's counter. A key that isn't made yet will begin at the first.
 abbrev pub next_of : Serial → ℕ → ℕ
@@ -223,6 +231,13 @@ after_release d place at o = record d { table = stepped d.table place (release_c
 -- When a line begins: its events are those from here on.
 abbrev pub after_begin : Serial → Serial
 after_begin d = record d { marks = []; start = length d.table.journal }
+
+-- The desk before any step.
+abbrev pub new_shards : List History
+new_shards = map (λ k. record { number = k; entries = [] }) (range_with_len 0 8)
+
+abbrev pub new_desk : ℕ → Serial
+new_desk first = record { table = no_steps; shards = new_shards; first = first; next = []; marks = []; room = 0; start = 0; hold = NoHold }
 
 -- ---- what it keeps true
 

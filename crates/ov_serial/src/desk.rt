@@ -1,0 +1,169 @@
+//! The desk at which one line after another stands: the peer table, the eight replay shards, the send
+//! counters, and what the present line holds. What waits to be let go is owed as soon as the line holds no
+//! key.
+
+ghost use Rattle.std.specs.Prelude.{◌≡◌, [], IfOk, OnOk};
+ghost use Rattle.ov_model.specs.Keys.{key_of};
+ghost use Rattle.ov_path.specs.Desks.{NoHold};
+ghost use Rattle.ov_serial.specs.Desks.{Serial, new_desk, after_begin, shown_of};
+
+use crate::counters::{count_key, drawn, following};
+use crate::holding::Hold;
+use crate::past::{Judged, Mark, Past};
+use ov_base::{Addr, Memory};
+use ov_keys::KeyPair;
+use ov_model::{Act, Call, Drawn, Given, Owed, Place, Reply, Verdict};
+use ov_path::Desk;
+use ov_replay::Shard;
+use ov_table::Table;
+use std::alloc::Global;
+use std::marker::Model;
+
+/// The number of replay shards: a key's is its serial modulo this.
+const SHARDS: u32 = 8;
+
+/// The marks that one call needs with all that may come before the next that can take room: its own, four
+/// of a hold, and the releases of two keys and a peer.
+const MOST_MARKS: usize = 9;
+
+/// One desk for all lines.
+#[derive(Drop)]
+pub struct SerialDesk {
+    table: Table,
+    shards: Vec<Shard>,
+    // Where each counter begins.
+    first: u32,
+    // For each key by its serial what its counter gives next.
+    next: Vec<u64>,
+    past: Past,
+    // How many entries the journal had when the present line began.
+    start: usize,
+    hold: Hold,
+}
+
+impl Model for SerialDesk {
+    ghost use Rattle.ov_serial.specs.Desks.{Serial, Sound, holding};
+
+    ghost Value = { Serial };
+
+    ghost view = { λ d. record { table = d.table; shards = d.shards.items; first = d.first; next = d.next.items; marks = d.past.marks; room = d.past.room; start = d.start; hold = holding d.hold } };
+
+    ghost invariant = { λ d. Sound (record { table = d.table; shards = d.shards.items; first = d.first; next = d.next.items; marks = d.past.marks; room = d.past.room; start = d.start; hold = holding d.hold }) };
+}
+
+impl SerialDesk {
+    /// The desk before any step. Send counters will begin at `first`.
+    pub fn new(alloc: Global, first: u32) -> Result<SerialDesk, Memory>
+        ensures { IfOk result (λ d. d ≡ new_desk first) }
+    {
+        let mut shards = Vec::new(alloc);
+        for number in 0..SHARDS {
+            shards.push(Shard::new(alloc, number))?;
+        }
+        Ok(SerialDesk {
+            table: Table::new(alloc),
+            shards,
+            first,
+            next: Vec::new(alloc),
+            past: Past::new(alloc),
+            start: 0,
+            hold: Hold::Nothing,
+        })
+    }
+
+    /// Begins a line: its events are those from here on.
+    pub fn begin(&mut self)
+        requires free { self.old.hold ≡ NoHold }
+        requires owes { (shown_of self.old).owing ≡ [] }
+        ensures { self.new ≡ after_begin self.old }
+    {
+        self.past.clear();
+        self.start = self.table.journal().len();
+    }
+}
+
+impl Desk for SerialDesk {
+    ghost use Rattle.ov_serial.specs.Desks.{shown_of, material_of_desk, itself, Happened};
+
+    ghost shown = { λ d. shown_of d };
+
+    ghost material = { λ d. material_of_desk d };
+
+    ghost via = { λ d. itself };
+
+    ghost does = { λ d event e. Happened d event e };
+
+    fn table(&mut self, place: Place, call: &Call) -> Result<Reply, Memory> {
+        self.next.reserve(1)?;
+        self.past.reserve(MOST_MARKS)?;
+        let reply = self.table.step(place, call)?;
+        count_key(&mut self.next, self.first, &call.act, &reply);
+        self.hold = self.hold.after(&call.act, &reply);
+        self.past.push(Mark::Stepped);
+        Ok(reply)
+    }
+
+    fn pair(&mut self, key: u32) -> Option<KeyPair> {
+        self.table.pair(key)
+    }
+
+    fn replay(&mut self, place: Place, key: u32, id: u32, at: u32) -> Result<Verdict, Memory> {
+        self.past.reserve(MOST_MARKS)?;
+        let shard = (key % SHARDS) as usize;
+        let verdict = self.shards[shard].step(place, key, id, at)?;
+        self.past.push(Mark::Judged(Judged {
+            place,
+            key,
+            id,
+            at,
+            verdict,
+        }));
+        Ok(verdict)
+    }
+
+    fn draw(&mut self, key: u32) -> Drawn {
+        let next = self.next[key as usize];
+        let result = drawn(next);
+        self.next[key as usize] = following(next);
+        self.past.push(Mark::Drew(key, result));
+        result
+    }
+
+    fn give_back_key(&mut self, key: u32) -> Given {
+        let given = match self.table.waiting() {
+            Some(_) => Given::Last,
+            None => Given::More,
+        };
+        self.hold = self.hold.without_key();
+        self.past.push(Mark::GaveKey(key, given));
+        given
+    }
+
+    fn give_back(&mut self, peer: u32) -> Given {
+        self.hold = Hold::Nothing;
+        self.past.push(Mark::GavePeer(peer, Given::More));
+        Given::More
+    }
+
+    fn owed(&self) -> Option<Owed> {
+        match self.hold {
+            Hold::Both(_) => None,
+            Hold::Nothing | Hold::PeerLeft(_) => self.table.waiting(),
+        }
+    }
+
+    fn release(&mut self, place: Place, at: u32, owed: Owed) {
+        let act = match owed {
+            Owed::Peer(peer) => Act::Released(peer),
+            Owed::Key(key) => Act::KeyReleased(key),
+        };
+        let Ok(_reply) = self.table.step(place, &Call { at, act }) else {
+            unreachable!();
+        };
+        self.past.push(Mark::Stepped);
+    }
+
+    fn via(&self, addr: Addr) -> Addr {
+        addr
+    }
+}
