@@ -9,3 +9,6 @@ pub mod KeysTaken
 pub mod Freed
 pub mod ReplayLemmas
 pub mod ReplayLaw
+pub mod Nonces
+pub mod NonceLaw
+pub mod SealedLaw

@@ -1,13 +1,15 @@
 //! What follows from the definitions alone. Each law is the contract of a function that does nothing.
 
 ghost use Rattle.std.specs.Prelude.{ℕ, List, ◌↔◌};
+ghost use Rattle.ov_model.specs.declared.answer.SealedOut.{SealedOut};
 ghost use Rattle.ov_model.specs.declared.entry.Entry.{Entry};
 ghost use Rattle.ov_model.specs.declared.line.Script.{Script};
 ghost use Rattle.ov_model.specs.declared.report.Report.{Report};
 ghost use Rattle.ov_model.specs.Runs.{IsRun, notes_of};
 ghost use Rattle.ov_model.specs.Removals.{RemovalsNoted, AllReleased, EachReleasedOnce};
 ghost use Rattle.ov_model.specs.Legal.{Legal};
-ghost use Rattle.ov_model.specs.Laws.{AcceptsOnce};
+ghost use Rattle.ov_model.specs.Keys.{KeysDiffer};
+ghost use Rattle.ov_model.specs.Laws.{AcceptsOnce, IsSealed, SealedUnder, NoncesDiffer};
 
 /// In every run the notes of each removal are those of the removed peers, in order, with the reason,
 /// and no peer is removed twice. No removed peer and no key that left its slot is left at the end
@@ -15,6 +17,15 @@ ghost use Rattle.ov_model.specs.Laws.{AcceptsOnce};
 pub fn removals()
     ensures noted { (journal : List Entry) → IsRun journal → RemovalsNoted journal (notes_of journal) }
     ensures released { (journal : List Entry) → IsRun journal → AllReleased journal ↔ EachReleasedOnce journal }
+{}
+
+/// The nonce law: in every legal report each sealed answer's datagram was sealed with the key that the
+/// history installed under the answer's serial, its nonce made of the answer's packet id and that key's
+/// nonce tail. And where no two keys of the history have the same sealing key and tail, no two sealed
+/// answers at different places, of whatever lanes, have the same bytes of the key and the same nonce.
+pub fn n1()
+    ensures sealed { (script : Script) (first : ℕ) (report : Report) → Legal script first report → (lane line : ℕ) (s : SealedOut) → IsSealed report lane line s → SealedUnder report s }
+    ensures differ { (script : Script) (first : ℕ) (report : Report) → Legal script first report → KeysDiffer report.journal → NoncesDiffer report }
 {}
 
 /// The replay law: in every legal report any two different replay steps that accept differ in their key
