@@ -12,3 +12,5 @@ pub mod ReplayLaw
 pub mod Nonces
 pub mod NonceLaw
 pub mod SealedLaw
+pub mod Places
+pub mod DeliveryLaw

@@ -1,15 +1,13 @@
 -- No nonce is used twice under the same bytes of a key, where no two keys seal with the same bytes and tail.
 use Rattle.std.proofs.Common.{ℕ, ◌≡◌, ◌≢◌, ◌+◌, ◌<◌, ◌≤◌, List, [], ◌∷◌, ◌++◌, length, refl, sym, ◌∙◌, subst, ap, Bool, true, false, arith, if◌then◌else◌, ◌==◌, ◌&&◌, nat_le, nat_lt, ◌⊎◌, inl, inr}
-use Rattle.std.specs.Prelude.{Option, Some, None, Result, Ok, Err, map, slice_get}
+use Rattle.std.specs.Prelude.{Option, Some, None, map, slice_get}
 use Rattle.std.specs.Option.{option_or}
 use Rattle.std.specs.Str.{bytes_eq}
 use Rattle.std.specs.List.{AllByRecursion, IsDistinct}
 use Rattle.std.proofs.lemmas.Bool.{cases_eq, cases_lt, eq-eqb, ne_eqb, both_ways}
 use Rattle.std.proofs.lemmas.Bool.Decides.{nat_tests}
-use Rattle.std.proofs.lemmas.Option.{slice_get_within}
 use Rattle.std.proofs.lemmas.Slice.Eq.{bytes_eq-Decides}
 use Rattle.ov_aes.specs.Aes.{key_list}
-use Rattle.ov_model.specs.declared.command.Command.{Command}
 use Rattle.ov_model.specs.declared.command.Command.TheVariants as command
 use Rattle.ov_model.specs.declared.command.KeyConf.{KeyConf}
 use Rattle.ov_model.specs.declared.command.KeyDir.{KeyDir}
@@ -25,9 +23,8 @@ use Rattle.ov_model.specs.declared.line.Script.{Script}
 use Rattle.ov_model.specs.declared.report.LaneLog.{LaneLog}
 use Rattle.ov_model.specs.declared.report.Report.{Report}
 use Rattle.ov_model.specs.Tables.{Material}
-use Rattle.ov_model.specs.Packets.{nonce_of}
 use Rattle.ov_model.specs.Removals.{times}
-use Rattle.ov_model.specs.Keys.{conf_made, material_of, key_by, key_of, sealing_in, same_dir, KeysDiffer, ids_of, ids_in, KeyCounts, IdsCount}
+use Rattle.ov_model.specs.Keys.{conf_made, material_of, key_by, key_of, sealing_in, same_dir, KeysDiffer, ids_of, ids_in, IdsCount}
 use Rattle.ov_model.specs.Legal.{Legal}
 use Rattle.ov_model.specs.Laws.{answer_at, IsSealed, NoncesDiffer}
 use Rattle.ov_model.proofs.ReplayLaw.{cases_order}
@@ -137,16 +134,16 @@ same_serial (e ∷ es) k l m n differ is_m is_n keys tails =
             | inr later_k ↦
                 let m_later : key_of es k ≡ Some m = sym (ap (λ o. option_or o (key_of es k)) (elsewhere e one k later_k)) ∙ is_m in
                 elim (cases_eq one.serial l) [
-              | inl first_l ↦
-                  let own : Material = material_of one.conf in
-                  let is_own : Some own ≡ Some n = sym (ap (λ o. option_or o (key_of es l)) (here e one l first_l)) ∙ is_n in
-                  let same : own ≡ n = cc in
-                  let apart : same_dir one.conf.encrypt m.encrypt ≡ false = sealing_has other_dir es k m m_later both.0 in
-                  absurd (both_ways _ apart (same_dir_is one.conf.encrypt m.encrypt (ap (λ (w : Material). key_list w.encrypt.key) same ∙ sym keys) (ap (λ (w : Material). w.encrypt.tail) same ∙ sym tails)))
-              | inr later_l ↦
-                  let n_later : key_of es l ≡ Some n = sym (ap (λ o. option_or o (key_of es l)) (elsewhere e one l later_l)) ∙ is_n in
-                  same_serial es k l m n both.1 m_later n_later keys tails
-            ]
+                  | inl first_l ↦
+                      let own : Material = material_of one.conf in
+                      let is_own : Some own ≡ Some n = sym (ap (λ o. option_or o (key_of es l)) (here e one l first_l)) ∙ is_n in
+                      let same : own ≡ n = cc in
+                      let apart : same_dir one.conf.encrypt m.encrypt ≡ false = sealing_has other_dir es k m m_later both.0 in
+                      absurd (both_ways _ apart (same_dir_is one.conf.encrypt m.encrypt (ap (λ (w : Material). key_list w.encrypt.key) same ∙ sym keys) (ap (λ (w : Material). w.encrypt.tail) same ∙ sym tails)))
+                  | inr later_l ↦
+                      let n_later : key_of es l ≡ Some n = sym (ap (λ o. option_or o (key_of es l)) (elsewhere e one l later_l)) ∙ is_n in
+                      same_serial es k l m n both.1 m_later n_later keys tails
+                ]
           ]
     ]
 

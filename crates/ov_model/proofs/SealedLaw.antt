@@ -1,6 +1,6 @@
 -- Each sealed answer of a legal report was sealed with a key that the history installed.
-use Rattle.std.proofs.Common.{ℕ, ◌≡◌, ◌<◌, List, [], ◌∷◌, length, refl, sym, ◌∙◌, subst, ap}
-use Rattle.std.specs.Prelude.{⊤, Option, Some, None, Result, Ok, Err, slice_get}
+use Rattle.std.proofs.Common.{ℕ, ◌≡◌, List, refl, sym, ◌∙◌, subst}
+use Rattle.std.specs.Prelude.{⊤, Option, Some, None, Result, Ok, Err}
 use Rattle.std.proofs.lemmas.Option.{slice_get_within}
 use Rattle.ov_base.specs.declared.address.Addr.{Addr}
 use Rattle.ov_base.specs.declared.address.Transport.{Transport}
@@ -8,7 +8,6 @@ use Rattle.ov_aes.specs.Aes.{key_list}
 use Rattle.ov_model.specs.declared.ident.PeerId.{PeerId}
 use Rattle.ov_model.specs.declared.ident.KeyId.{KeyId}
 use Rattle.ov_model.specs.declared.command.Command.{Command}
-use Rattle.ov_model.specs.declared.act.Act.TheVariants as act
 use Rattle.ov_model.specs.declared.reply.Errno.{Errno}
 use Rattle.ov_model.specs.declared.reply.Reply.TheVariants as reply
 use Rattle.ov_model.specs.declared.reply.Settled.TheVariants as settled
@@ -21,16 +20,15 @@ use Rattle.ov_model.specs.declared.line.Line.{Line}
 use Rattle.ov_model.specs.declared.line.Deed.{Deed}
 use Rattle.ov_model.specs.declared.line.Deed.TheVariants as deed
 use Rattle.ov_model.specs.declared.line.Script.{Script}
-use Rattle.ov_model.specs.declared.report.LaneLog.{LaneLog}
 use Rattle.ov_model.specs.declared.report.Report.{Report}
 use Rattle.ov_model.specs.Ident.{peer_id, key_id}
 use Rattle.ov_model.specs.Tables.{Material}
 use Rattle.ov_model.specs.Checked.{checked}
-use Rattle.ov_model.specs.Events.{of, shown_in, steps_of}
+use Rattle.ov_model.specs.Events.{steps_of}
 use Rattle.ov_model.specs.Packets.{HeadKind, short, data_v1, control, data_v2, head_of, Inner, v4, v6, not_ip, inner_of, datagram}
-use Rattle.ov_model.specs.Path.{at_once, begins_netlink, begins_tx, rx_look_by, begins_rx, begins, packet_in, Row, AtOnce, Commanded, Missed, Held, RowFits, row_answer, Path}
+use Rattle.ov_model.specs.Path.{at_once, begins_netlink, begins_tx, rx_look_by, begins_rx, begins, packet_in, Row, AtOnce, Commanded, Missed, Held, RowFits, row_answer}
 use Rattle.ov_model.specs.Keys.{key_of}
-use Rattle.ov_model.specs.Legal.{Meets, LaneMeets, Legal}
+use Rattle.ov_model.specs.Legal.{Meets, Legal}
 use Rattle.ov_model.specs.Laws.{IsSealed, SealedUnder}
 use Rattle.ov_model.proofs.NonceLaw.{InLane, in_lane}
 

@@ -1,15 +1,20 @@
 //! What follows from the definitions alone. Each law is the contract of a function that does nothing.
 
-ghost use Rattle.std.specs.Prelude.{ℕ, List, ◌↔◌};
+ghost use Rattle.std.specs.Prelude.{ℕ, List, ◌≡◌, ◌↔◌, Some};
+ghost use Rattle.ov_base.specs.declared.address.Transport.{Transport};
+ghost use Rattle.ov_model.specs.declared.answer.Answer.{Answer};
+ghost use Rattle.ov_model.specs.declared.answer.Answer.TheVariants.{Delivered};
 ghost use Rattle.ov_model.specs.declared.answer.SealedOut.{SealedOut};
 ghost use Rattle.ov_model.specs.declared.entry.Entry.{Entry};
+ghost use Rattle.ov_model.specs.declared.ident.PeerId.{PeerId};
 ghost use Rattle.ov_model.specs.declared.line.Script.{Script};
 ghost use Rattle.ov_model.specs.declared.report.Report.{Report};
 ghost use Rattle.ov_model.specs.Runs.{IsRun, notes_of};
 ghost use Rattle.ov_model.specs.Removals.{RemovalsNoted, AllReleased, EachReleasedOnce};
 ghost use Rattle.ov_model.specs.Legal.{Legal};
 ghost use Rattle.ov_model.specs.Keys.{KeysDiffer};
-ghost use Rattle.ov_model.specs.Laws.{AcceptsOnce, IsSealed, SealedUnder, NoncesDiffer};
+ghost use Rattle.ov_model.specs.Laws.{answer_at, AcceptsOnce, IsSealed, SealedUnder, NoncesDiffer};
+ghost use Rattle.ov_model.specs.Delivery.{Receives, Delivers};
 
 /// In every run the notes of each removal are those of the removed peers, in order, with the reason,
 /// and no peer is removed twice. No removed peer and no key that left its slot is left at the end
@@ -32,4 +37,12 @@ pub fn n1()
 /// or in their packet id, whatever shards they stand in. So no datagram is accepted twice.
 pub fn n2()
     ensures once { (script : Script) (first : ℕ) (report : Report) → Legal script first report → AcceptsOnce report.shards }
+{}
+
+/// The delivery law: in every legal report an answered line that received a datagram is answered with a
+/// packet of a peer exactly where its look-up held that peer and a key of it, the tag verifies under this
+/// key and this is the packet that it opens to, the line's replay step accepted the packet id, and the
+/// peer with the VPN address of the packet's source was this very peer when the packet was settled.
+pub fn n3()
+    ensures delivered { (script : Script) (first : ℕ) (report : Report) → Legal script first report → (lane line : ℕ) (from : Transport) (bytes : List ℕ) (a : Answer) → Receives report lane line from bytes → answer_at report.lanes lane line ≡ Some a → (id : PeerId) (packet : List ℕ) → (a ≡ Delivered id packet) ↔ Delivers report lane line bytes id packet }
 {}
