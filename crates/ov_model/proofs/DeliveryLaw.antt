@@ -1,5 +1,5 @@
 -- A received datagram is delivered exactly where its parts say so.
-use Rattle.std.proofs.Common.{ℕ, ◌≡◌, List, [], ◌∷◌, ◌++◌, refl, sym, ◌∙◌, subst, ap, Bool, ◌==◌, inl, inr}
+use Rattle.std.proofs.Common.{ℕ, ◌≡◌, List, [], ◌∷◌, ◌++◌, length, refl, sym, ◌∙◌, subst, ap, Bool, ◌==◌, inl, inr}
 use Rattle.std.specs.Prelude.{max, Option, Some, None, IsSome, unwrap_or, position, slice_get, if◌then◌else◌}
 use Rattle.std.specs.List.{AllByRecursion}
 use Rattle.std.proofs.lemmas.Bool.{cases_eq, eq-eqb, ne_eqb}
@@ -33,7 +33,7 @@ use Rattle.ov_model.specs.declared.report.LaneLog.{LaneLog}
 use Rattle.ov_model.specs.declared.report.Report.{Report}
 use Rattle.ov_model.specs.Ident.{peer_id, key_id}
 use Rattle.ov_model.specs.Tables.{Peer, Table, Material, empty_table, by_vpn}
-use Rattle.ov_model.specs.Step.{is_serial, settled_as, settle_dying, settle_not_live, settle_live, settle_at, settle, act_step, step}
+use Rattle.ov_model.specs.Step.{is_serial, settled_as, settle_dying, settle_not_live, settle_live, settle_at, settle, act_step}
 use Rattle.ov_model.specs.Runs.{IsRun}
 use Rattle.ov_model.specs.Packets.{HeadKind, short, data_v1, control, data_v2, head_of, Kind, from_source, ping, no_source, kind_of, opened, packet_id_of}
 use Rattle.ov_model.specs.Events.{Step, Judgement, of, shown_in, steps_of, step_of, release_of, releases}
@@ -41,7 +41,7 @@ use Rattle.ov_model.specs.Path.{first, begins_rx, rx_look_by, packet_in, kind_vi
 use Rattle.ov_model.specs.Keys.{key_of}
 use Rattle.ov_model.specs.Legal.{Meets, Legal}
 use Rattle.ov_model.specs.Laws.{answer_at}
-use Rattle.ov_model.specs.Delivery.{Receives, IsSettle, table_before, Delivers}
+use Rattle.ov_model.specs.Delivery.{Receives, IsReceived, IsSettle, table_before, Delivers}
 use Rattle.ov_model.proofs.Lanes.{all_append, here}
 use Rattle.ov_model.proofs.NonceLaw.{InLane, in_lane}
 use Rattle.ov_model.proofs.SealedLaw.{IsMade, at_once_not_made}
@@ -68,6 +68,17 @@ settle_at_reply t now peer from s inner outer (Some i) = settle_live_reply t now
 settle_reply : (t : Table) (now peer : ℕ) (from : Option Transport) (k : InnerKind) (inner outer : ℕ) → (act_step t now (act.Settle peer from k inner outer)).reply ≡ reply.Settled (settled_as peer k t.live)
 unfolding settle
 settle_reply t now peer from k inner outer = settle_at_reply t now peer from (settled_as peer k t.live) inner outer (position (λ p. p.serial == peer) t.live)
+
+-- What an entry that settles a packet replies, by the table before it.
+settled_so : (journal : List Entry) → IsRun journal → (n : ℕ) (e : Entry) (h : HoldView) (inner bytes : List ℕ) (s : Settled) → slice_get journal n ≡ Some e → e.call.act ≡ settle_act (λ b. b) h inner bytes → e.reply ≡ reply.Settled s
+    → settled_as h.peer (kind_via (λ b. b) (kind_of inner)) (table_before journal n).live ≡ s
+settled_so journal run n e h inner bytes s at act_is reply_is =
+    let before : Table = table_before journal n in
+    let now : ℕ = max before.moment e.call.at in
+    let ran : (act_step before now e.call.act).reply ≡ reply.Settled s = reply_at empty_table journal n e run at ∙ reply_is in
+    let by_act : (act_step before now (settle_act (λ b. b) h inner bytes)).reply ≡ reply.Settled s = ap (λ (w : Act). (act_step before now w).reply) (sym act_is) ∙ ran in
+    let replied : reply.Settled (settled_as h.peer (kind_via (λ b. b) (kind_of inner)) before.live) ≡ reply.Settled s = sym (settle_reply before now h.peer None (kind_via (λ b. b) (kind_of inner)) (length inner) (length bytes)) ∙ by_act in
+    cc
 
 -- Whose a packet is, where it is delivered, and the other way round.
 record Owned (peer : ℕ) (k : Kind) (live : List Peer) : Type 0 where
@@ -200,11 +211,11 @@ delivered_shows script start report legal lane line from bytes a receives at id 
     let look_at : EntryAt report.journal look.entry = step_entry empty_table report.journal lane line 0 look (ap (λ (ss : List Step). slice_get ss 0) steps) in
     let settle_at : EntryAt report.journal settles.entry = step_entry empty_table report.journal lane line 1 settles (ap (λ (ss : List Step). slice_get ss 1) steps) in
     let judged : JudgedAt report.shards judgement = judged_found report.shards lane line 0 judgement (ap (λ (js : List Judgement). slice_get js 0) judgements) in
+    let inner : List ℕ = packet_in (deed.Rx from bytes) row.m in
     let before : Table = table_before report.journal settle_at.n in
-    let ran : (step before settles.entry.call).reply ≡ reply.Settled settled.Deliver = reply_at empty_table report.journal settle_at.n settles.entry legal.journal.runs settle_at.at in
-    let replied : reply.Settled (settled_as row.h.peer (kind_via via (kind_of (packet_in (deed.Rx from bytes) row.m))) before.live) ≡ reply.Settled settled.Deliver = sym (settle_reply before _ row.h.peer None (kind_via via (kind_of (packet_in (deed.Rx from bytes) row.m))) _ _) ∙ ran in
-    let deliver : settled_as row.h.peer (kind_via via (kind_of (packet_in (deed.Rx from bytes) row.m))) before.live ≡ settled.Deliver = cc in
-    let own : Owned row.h.peer (kind_of (packet_in (deed.Rx from bytes) row.m)) before.live = owned row.h.peer (kind_of (packet_in (deed.Rx from bytes) row.m)) before.live deliver in
+    let deliver : settled_as row.h.peer (kind_via via (kind_of inner)) before.live ≡ settled.Deliver = settled_so report.journal legal.journal.runs settle_at.n settles.entry row.h inner bytes settled.Deliver settle_at.at refl refl in
+    let own : Owned row.h.peer (kind_of inner) before.live = owned row.h.peer (kind_of inner) before.live deliver in
+    let source_is : kind_of packet ≡ from_source own.source = ◌∙◌ {b = kind_of inner} (ap kind_of (sym packet_is)) own.source_is in
     record {
       hold = row.h;
       look = look_at.n;
@@ -226,7 +237,7 @@ delivered_shows script start report legal lane line from bytes a receives at id 
       settled = record { at = settle_at.at; place = refl };
       is_settle = tt;
       source = own.source;
-      source_is = ap kind_of (sym packet_is) ∙ own.source_is;
+      source_is = source_is;
       owner = own.owner;
       owner_is = own.owner_is;
       owns = own.owns;
@@ -313,11 +324,8 @@ showing_row report lane line from bytes id packet d run own at (Held x h m (used
     let look : P (step_of place at x (reply.Hold h) []).entry = λ i. absurd (rx_begins from (head_of bytes) x fits.0 i) in
     let its = settle_has report lane line bytes id packet d P _ steps (look, ((λ _. (refl, refl)), all_released P place at (release_settles (settle_act via h inner bytes) s place at) (hold_owed h key peer))) d.is_settle in
     let before : Table = table_before report.journal d.settle in
-    let ran : (step before d.settle_entry.call).reply ≡ reply.Settled s = reply_at empty_table report.journal d.settle d.settle_entry run d.settled.at ∙ its.1 in
-    let by_act : (act_step before (max before.moment d.settle_entry.call.at) (settle_act via h inner bytes)).reply ≡ reply.Settled s = ap (λ (w : Act). (act_step before (max before.moment d.settle_entry.call.at) w).reply) (sym its.0) ∙ ran in
-    let replied : reply.Settled (settled_as h.peer (kind_via via (kind_of inner)) before.live) ≡ reply.Settled s = sym (settle_reply before _ h.peer None (kind_via via (kind_of inner)) _ _) ∙ by_act in
     let deliver : settled_as h.peer (kind_via via (kind_of inner)) before.live ≡ settled.Deliver = owner_delivers h.peer (kind_of inner) before.live d.source d.owner (ap kind_of inner_is ∙ d.source_is) d.owner_is (d.owns ∙ ap (λ (w : HoldView). w.peer) both.0) in
-    let same : settled_as h.peer (kind_via via (kind_of inner)) before.live ≡ s = cc in
+    let same : settled_as h.peer (kind_via via (kind_of inner)) before.live ≡ s = settled_so report.journal run d.settle d.settle_entry h inner bytes s d.settled.at its.0 its.1 in
     let settled_is : s ≡ settled.Deliver = sym same ∙ deliver in
     let id_is : h.id ≡ id = ap (λ (w : HoldView). w.id) (sym both.0) ∙ d.id_is in
     rw (settled_is, inner_is, id_is) refl
@@ -334,3 +342,19 @@ showing_delivers script start report legal lane line from bytes a receives at id
     let judgements : shown_in report.shards lane line ≡ row_judgements place its path.row = path.judgements_are ∙ ap (λ (d : Deed). row_judgements place (with_deed d) path.row) path.deed_is in
     let answered : row_answer path.its path.row ≡ row_answer its path.row = ap (λ (d : Deed). row_answer (with_deed d) path.row) path.deed_is in
     path.answer_is ∙ answered ∙ showing_row report lane line from bytes id packet d legal.journal.runs path.its.lane path.its.at path.row fits steps judgements
+
+-- ---- only what was received is delivered
+
+settled_deed : (report : Report) (lane line : ℕ) (log : LaneLog) (its : Line) → slice_get report.lanes lane ≡ Some log → slice_get log.lines line ≡ Some its → (d : Deed) → its.deed ≡ d → (m : Material) → UseFits d m (used.Settled settled.Deliver) → IsReceived report lane line
+settled_deed report lane line log its log_is its_is (deed.Netlink n) is m fits = absurd fits
+settled_deed report lane line log its log_is its_is (deed.Tx packet) is m fits = absurd fits
+settled_deed report lane line log its log_is its_is (deed.Rx from bytes) is m fits = record { from = from; bytes = bytes; receives = record { log = log; log_is = log_is; its = its; its_is = its_is; deed_is = is } }
+
+pub delivered_received : (script : Script) (start : ℕ) (report : Report) → Legal script start report → (lane line : ℕ) (id : PeerId) (packet : List ℕ) → answer_at report.lanes lane line ≡ Some (answer.Delivered id packet) → IsReceived report lane line
+delivered_received script start report legal lane line id packet at =
+    let x : InLane report.lanes lane line (answer.Delivered id packet) = in_lane report.lanes lane line (answer.Delivered id packet) at in
+    let meets : Meets (key_of report.journal) (λ b. b) (steps_of report.journal) report.shards lane x.log.lines x.log.answers line = (legal.lines.each lane x.log x.log_is).each line (slice_get_within x.log.answers line (answer.Delivered id packet) x.at) in
+    let answers : Some (answer.Delivered id packet) ≡ Some meets.answer = sym x.at ∙ meets.answer_is in
+    let same : answer.Delivered id packet ≡ meets.answer = cc in
+    let row : DeliveredRow (key_of report.journal) meets.line meets.path.row id packet = delivered_row (key_of report.journal) (λ b. b) meets.line id packet meets.path.row meets.path.fits (same ∙ meets.path.answer_is) in
+    settled_deed report lane line x.log meets.line x.log_is meets.line_is meets.line.deed refl row.m row.fits

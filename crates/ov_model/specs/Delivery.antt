@@ -28,6 +28,11 @@ pub record Receives (report : Report) (lane line : ℕ) (from : Transport) (byte
   pub its_is : slice_get log.lines line ≡ Some its
   pub deed_is : its.deed ≡ deed.Rx from bytes
 
+pub record IsReceived (report : Report) (lane line : ℕ) : Type 0 where
+  pub from : Transport
+  pub bytes : List ℕ
+  pub receives : Receives report lane line from bytes
+
 -- An entry of the history was made by a line.
 pub record IsEntryOf (report : Report) (lane line n : ℕ) (e : Entry) : Type 0 where
   pub at : slice_get report.journal n ≡ Some e

@@ -14,7 +14,7 @@ ghost use Rattle.ov_model.specs.Removals.{RemovalsNoted, AllReleased, EachReleas
 ghost use Rattle.ov_model.specs.Legal.{Legal};
 ghost use Rattle.ov_model.specs.Keys.{KeysDiffer};
 ghost use Rattle.ov_model.specs.Laws.{answer_at, AcceptsOnce, IsSealed, SealedUnder, NoncesDiffer};
-ghost use Rattle.ov_model.specs.Delivery.{Receives, Delivers};
+ghost use Rattle.ov_model.specs.Delivery.{Receives, IsReceived, Delivers};
 
 /// In every run the notes of each removal are those of the removed peers, in order, with the reason,
 /// and no peer is removed twice. No removed peer and no key that left its slot is left at the end
@@ -42,7 +42,9 @@ pub fn n2()
 /// The delivery law: in every legal report an answered line that received a datagram is answered with a
 /// packet of a peer exactly where its look-up held that peer and a key of it, the tag verifies under this
 /// key and this is the packet that it opens to, the line's replay step accepted the packet id, and the
-/// peer with the VPN address of the packet's source was this very peer when the packet was settled.
+/// peer with the VPN address of the packet's source was this very peer when the packet was settled. No
+/// other line is answered so.
 pub fn n3()
     ensures delivered { (script : Script) (first : ℕ) (report : Report) → Legal script first report → (lane line : ℕ) (from : Transport) (bytes : List ℕ) (a : Answer) → Receives report lane line from bytes → answer_at report.lanes lane line ≡ Some a → (id : PeerId) (packet : List ℕ) → (a ≡ Delivered id packet) ↔ Delivers report lane line bytes id packet }
+    ensures received { (script : Script) (first : ℕ) (report : Report) → Legal script first report → (lane line : ℕ) (id : PeerId) (packet : List ℕ) → answer_at report.lanes lane line ≡ Some (Delivered id packet) → IsReceived report lane line }
 {}
