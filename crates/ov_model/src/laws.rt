@@ -34,7 +34,7 @@ pub fn n1()
 {}
 
 /// The replay law: in every legal report any two different replay steps that accept differ in their key
-/// or in their packet id, whatever shards they stand in. So no datagram is accepted twice.
+/// or in their packet id, whatever shards they stand in: under one key no packet id is accepted twice.
 pub fn n2()
     ensures once { (script : Script) (first : ℕ) (report : Report) → Legal script first report → AcceptsOnce report.shards }
 {}
