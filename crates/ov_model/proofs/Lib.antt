@@ -10,3 +10,8 @@ pub mod Freed
 pub mod ReplayLemmas
 pub mod Counting
 pub mod ReplayLaw
+pub mod Nonces
+pub mod NonceLaw
+pub mod SealedLaw
+pub mod Places
+pub mod DeliveryLaw

@@ -23,7 +23,7 @@ in_shard_of shards s i a (Some shard) is at = let its : judged_at shards s i ≡
 in_shard : (shards : List (List ReplayEntry)) (s i : ℕ) (a : ReplayEntry) → judged_at shards s i ≡ Some a → InShard shards s i a
 in_shard shards s i a at = in_shard_of shards s i a (slice_get shards s) refl at
 
-cases_order : (i j : ℕ) → (i < j) ⊎ ((i ≡ j) ⊎ (j < i))
+pub cases_order : (i j : ℕ) → (i < j) ⊎ ((i ≡ j) ⊎ (j < i))
 cases_order i j = elim (cases_lt i j) [ inl before ↦ inl before | inr not_before ↦ elim (cases_lt j i) [ inl after ↦ inr (inr after) | inr neither ↦ inr (inl (omega arith)) ] ]
 
 one_shard : (s : ℕ) (shard : List ReplayEntry) (i j : ℕ) (a b : ReplayEntry) → ShardJudges s shard → slice_get shard i ≡ Some a → slice_get shard j ≡ Some b → a.verdict ≡ Accept → b.verdict ≡ Accept → a.key ≡ b.key → a.id ≡ b.id → i ≡ j

@@ -12,3 +12,4 @@ pub mod Removals
 pub mod Keys
 pub mod Legal
 pub mod Laws
+pub mod Delivery

@@ -1,13 +1,20 @@
 //! What follows from the definitions alone. Each law is the contract of a function that does nothing.
 
-ghost use Rattle.std.specs.Prelude.{ℕ, List, ◌↔◌};
+ghost use Rattle.std.specs.Prelude.{ℕ, List, ◌≡◌, ◌↔◌, Some};
+ghost use Rattle.ov_base.specs.declared.address.Transport.{Transport};
+ghost use Rattle.ov_model.specs.declared.answer.Answer.{Answer};
+ghost use Rattle.ov_model.specs.declared.answer.Answer.TheVariants.{Delivered};
+ghost use Rattle.ov_model.specs.declared.answer.SealedOut.{SealedOut};
 ghost use Rattle.ov_model.specs.declared.entry.Entry.{Entry};
+ghost use Rattle.ov_model.specs.declared.ident.PeerId.{PeerId};
 ghost use Rattle.ov_model.specs.declared.line.Script.{Script};
 ghost use Rattle.ov_model.specs.declared.report.Report.{Report};
 ghost use Rattle.ov_model.specs.Runs.{IsRun, notes_of};
 ghost use Rattle.ov_model.specs.Removals.{RemovalsNoted, AllReleased, EachReleasedOnce};
 ghost use Rattle.ov_model.specs.Legal.{Legal};
-ghost use Rattle.ov_model.specs.Laws.{AcceptsOnce};
+ghost use Rattle.ov_model.specs.Keys.{KeysDiffer};
+ghost use Rattle.ov_model.specs.Laws.{answer_at, AcceptsOnce, IsSealed, SealedUnder, NoncesDiffer};
+ghost use Rattle.ov_model.specs.Delivery.{Receives, IsReceived, Delivers};
 
 /// In every run the notes of each removal are those of the removed peers, in order, with the reason,
 /// and no peer is removed twice. No removed peer and no key that left its slot is left at the end
@@ -17,8 +24,27 @@ pub fn removals()
     ensures released { (journal : List Entry) → IsRun journal → AllReleased journal ↔ EachReleasedOnce journal }
 {}
 
+/// The nonce law: in every legal report each sealed answer's datagram was sealed with the key that the
+/// history installed under the answer's serial, its nonce made of the answer's packet id and that key's
+/// nonce tail. And where no two keys of the history have the same sealing key and tail, no two sealed
+/// answers at different places, of whatever lanes, have the same bytes of the key and the same nonce.
+pub fn n1()
+    ensures sealed { (script : Script) (first : ℕ) (report : Report) → Legal script first report → (lane line : ℕ) (s : SealedOut) → IsSealed report lane line s → SealedUnder report s }
+    ensures differ { (script : Script) (first : ℕ) (report : Report) → Legal script first report → KeysDiffer report.journal → NoncesDiffer report }
+{}
+
 /// The replay law: in every legal report any two different replay steps that accept differ in their key
-/// or in their packet id, whatever shards they stand in. So no datagram is accepted twice.
+/// or in their packet id, whatever shards they stand in: under one key no packet id is accepted twice.
 pub fn n2()
     ensures once { (script : Script) (first : ℕ) (report : Report) → Legal script first report → AcceptsOnce report.shards }
+{}
+
+/// The delivery law: in every legal report an answered line that received a datagram is answered with a
+/// packet of a peer exactly where its look-up held that peer and a key of it, the tag verifies under this
+/// key and this is the packet that it opens to, the line's replay step accepted the packet id, and the
+/// peer with the VPN address of the packet's source was this very peer when the packet was settled. No
+/// other line is answered so.
+pub fn n3()
+    ensures delivered { (script : Script) (first : ℕ) (report : Report) → Legal script first report → (lane line : ℕ) (from : Transport) (bytes : List ℕ) (a : Answer) → Receives report lane line from bytes → answer_at report.lanes lane line ≡ Some a → (id : PeerId) (packet : List ℕ) → (a ≡ Delivered id packet) ↔ Delivers report lane line bytes id packet }
+    ensures received { (script : Script) (first : ℕ) (report : Report) → Legal script first report → (lane line : ℕ) (id : PeerId) (packet : List ℕ) → answer_at report.lanes lane line ≡ Some (Delivered id packet) → IsReceived report lane line }
 {}
