@@ -1,4 +1,5 @@
 pub mod Floats
+pub mod Kept
 pub mod Outcomes
 pub mod Places
 pub mod Told
