@@ -1,6 +1,6 @@
 -- Each key that a told table still has is as the journal's key-new with its serial installed it.
-use Rattle.std.proofs.Common.{ℕ, ◌+◌, ◌≡◌, ◌≤◌, ◌<◌, ◌∙◌, sym, ap, List, [], ◌∷◌, ◌++◌, refl, subst, Bool, true, false, if◌then◌else◌, ◌==◌, arith, max}
-use Rattle.std.specs.Prelude.{Option, Some, None, find}
+use Rattle.std.proofs.Common.{ℕ, ◌+◌, ◌≡◌, ◌≤◌, ◌<◌, ◌∙◌, sym, ap, List, [], ◌∷◌, ◌++◌, refl, subst, Bool, true, false, if◌then◌else◌, ◌==◌, arith, append-nil, append_assoc}
+use Rattle.std.specs.Prelude.{Option, Some, None, find, max}
 use Rattle.std.specs.List.{AllByRecursion}
 use Rattle.std.specs.Option.{option_or}
 use Rattle.std.proofs.lemmas.Bool.Decides.{nat_tests}
@@ -12,10 +12,12 @@ use Rattle.ov_model.specs.declared.act.Act.TheVariants as act
 use Rattle.ov_model.specs.declared.reply.Reply.{Reply}
 use Rattle.ov_model.specs.declared.reply.Reply.TheVariants as reply
 use Rattle.ov_model.specs.declared.entry.Entry.{Entry}
-use Rattle.ov_model.specs.Tables.{Material, Peer, Key, Table}
-use Rattle.ov_model.specs.Step.{Outcome, key_new, act_step, step}
+use Rattle.ov_model.specs.Tables.{Material, Peer, Key, Table, empty_table}
+use Rattle.ov_model.specs.Step.{Outcome, key_of_conf, key_new, act_step, step}
 use Rattle.ov_model.specs.Keys.{key_of, key_by}
+use Rattle.ov_model.specs.Runs.{Follows, table_after}
 use Rattle.ov_model.proofs.Lanes.{all_weaker}
+use Rattle.ov_table.specs.Recorded.{Recorded, IsTold}
 use Rattle.ov_table.proofs.Kept.{OneHolds, SlotsHold, Holds, Keeps, KeyNewEnds, no, yes, new_key_ends, NoNewKey, act_keeps}
 
 abbrev pub AsIn : List Entry → Key → Type 0
@@ -55,3 +57,80 @@ same_keys journal t after e none old holds = record {
       let before : key_of journal key ≡ None = old.fresh key (subst (λ n. n ≤ key) holds.count past) in
       rw (key_of-append journal (e ∷ []) key, before, none key) refl;
 }
+
+none_of : (a : Act) (r : Reply) → NoNewKey a → (key : ℕ) → key_by a r key ≡ None
+none_of (act.Do (command.PeerNew a)) r new key = refl
+none_of (act.Do (command.PeerGet id)) r new key = refl
+none_of (act.Do (command.Remove id reason)) r new key = refl
+none_of (act.Do (command.KeyNew c)) r new key = absurd new
+none_of (act.TxLook a) r new key = refl
+none_of (act.RxLook id key_id from) r new key = refl
+none_of (act.Sent peer inner outer ping) r new key = refl
+none_of (act.Settle peer from k inner outer) r new key = refl
+none_of (act.Spend peer spent) r new key = refl
+none_of (act.Released serial) r new key = refl
+none_of (act.KeyReleased serial) r new key = refl
+
+other_act : (journal : List Entry) (t : Table) (now : ℕ) (place : Place) (at : ℕ) (a : Act) (r : Reply) → NoNewKey a → Installed journal t → Installed (journal ++ record { place = place; call = record { at = at; act = a }; reply = r } ∷ []) (act_step t now a).after
+other_act journal t now place at a r new old =
+    let e : Entry = record { place = place; call = record { at = at; act = a }; reply = r } in
+    let before : Holds (AsIn (journal ++ e ∷ [])) t.keys_made t = holds_weaker (AsIn journal) (AsIn (journal ++ e ∷ [])) t.keys_made t (still_in journal (e ∷ [])) old.known in
+    same_keys journal t (act_step t now a).after e (none_of a r new) old (act_keeps (AsIn (journal ++ e ∷ [])) t.keys_made t now a new before).holds
+
+abbrev key_entry : Place → ℕ → KeyConf → Reply → Entry
+key_entry place at c r = record { place = place; call = record { at = at; act = act.Do (command.KeyNew c) }; reply = r }
+
+made_key : (journal : List Entry) (t after : Table) (place : Place) (at : ℕ) (c : KeyConf) → Installed journal t → (AsIn (journal ++ key_entry place at c (reply.Made t.keys_made) ∷ []) (key_of_conf t.keys_made c) → Holds (AsIn (journal ++ key_entry place at c (reply.Made t.keys_made) ∷ [])) (t.keys_made + 1) after) → Installed (journal ++ key_entry place at c (reply.Made t.keys_made) ∷ []) after
+made_key journal t after place at c old more =
+    let e : Entry = key_entry place at c (reply.Made t.keys_made) in
+    let before : key_of journal t.keys_made ≡ None = old.fresh t.keys_made (omega arith) in
+    let same : (t.keys_made == t.keys_made) ≡ true = grind (arith, nat_tests) in
+    let holds : Holds (AsIn (journal ++ e ∷ [])) (t.keys_made + 1) after = more (rw (key_of-append journal (e ∷ []) t.keys_made, before, same) refl) in
+    record {
+      known = subst (λ n. Holds (AsIn (journal ++ e ∷ [])) n after) (sym holds.count) holds;
+      fresh = λ key past.
+          let above : t.keys_made + 1 ≤ key = subst (λ n. n ≤ key) holds.count past in
+          let before : key_of journal key ≡ None = old.fresh key (omega (arith, above)) in
+          let other : (t.keys_made == key) ≡ false = grind (arith, nat_tests, above) in
+          rw (key_of-append journal (e ∷ []) key, before, other) refl;
+    }
+
+key_ended : (journal : List Entry) (t : Table) (place : Place) (at : ℕ) (c : KeyConf) (r : Reply) (o : Outcome) → r ≡ o.reply → Installed journal t → KeyNewEnds (AsIn (journal ++ key_entry place at c r ∷ [])) t c o → Installed (journal ++ key_entry place at c r ∷ []) o.after
+key_ended journal t place at c r o is old (no e said keeps) =
+    let none : (key : ℕ) → key_by (act.Do (command.KeyNew c)) r key ≡ None = λ key. subst (λ x. key_by (act.Do (command.KeyNew c)) x key ≡ None) (sym (is ∙ said)) refl in
+    same_keys journal t o.after (key_entry place at c r) none old keeps.holds
+key_ended journal t place at c r o is old (yes said keeps) =
+    let P : Reply → Type 0 = λ x. (AsIn (journal ++ key_entry place at c x ∷ []) (key_of_conf t.keys_made c) → Holds (AsIn (journal ++ key_entry place at c x ∷ [])) (t.keys_made + 1) o.after) → Installed (journal ++ key_entry place at c x ∷ []) o.after in
+    let made : P r = subst P (sym (is ∙ said)) (made_key journal t o.after place at c old) in
+    made (λ new. (keeps new).holds)
+
+key_act : (journal : List Entry) (t : Table) (now : ℕ) (place : Place) (at : ℕ) (c : KeyConf) (r : Reply) → r ≡ (key_new t now c).reply → Installed journal t → Installed (journal ++ key_entry place at c r ∷ []) (key_new t now c).after
+key_act journal t now place at c r is old =
+    let P : Key → Type 0 = AsIn (journal ++ key_entry place at c r ∷ []) in
+    let before : Holds P t.keys_made t = holds_weaker (AsIn journal) P t.keys_made t (still_in journal (key_entry place at c r ∷ [])) old.known in
+    key_ended journal t place at c r (key_new t now c) is old (new_key_ends P t now c before)
+
+each_act : (journal : List Entry) (t : Table) (now : ℕ) (place : Place) (at : ℕ) (a : Act) (r : Reply) → r ≡ (act_step t now a).reply → Installed journal t → Installed (journal ++ record { place = place; call = record { at = at; act = a }; reply = r } ∷ []) (act_step t now a).after
+each_act journal t now place at (act.Do (command.PeerNew a)) r is old = other_act journal t now place at (act.Do (command.PeerNew a)) r tt old
+each_act journal t now place at (act.Do (command.PeerGet id)) r is old = other_act journal t now place at (act.Do (command.PeerGet id)) r tt old
+each_act journal t now place at (act.Do (command.Remove id reason)) r is old = other_act journal t now place at (act.Do (command.Remove id reason)) r tt old
+each_act journal t now place at (act.Do (command.KeyNew c)) r is old = key_act journal t now place at c r is old
+each_act journal t now place at (act.TxLook a) r is old = other_act journal t now place at (act.TxLook a) r tt old
+each_act journal t now place at (act.RxLook id key_id from) r is old = other_act journal t now place at (act.RxLook id key_id from) r tt old
+each_act journal t now place at (act.Sent peer inner outer ping) r is old = other_act journal t now place at (act.Sent peer inner outer ping) r tt old
+each_act journal t now place at (act.Settle peer from k inner outer) r is old = other_act journal t now place at (act.Settle peer from k inner outer) r tt old
+each_act journal t now place at (act.Spend peer key) r is old = other_act journal t now place at (act.Spend peer key) r tt old
+each_act journal t now place at (act.Released serial) r is old = other_act journal t now place at (act.Released serial) r tt old
+each_act journal t now place at (act.KeyReleased serial) r is old = other_act journal t now place at (act.KeyReleased serial) r tt old
+
+installed_run : (journal : List Entry) (t : Table) (es : List Entry) → Installed journal t → Follows t es → Installed (journal ++ es) (table_after t es)
+installed_run journal t [] old run = subst (λ es. Installed es t) (sym (append-nil journal)) old
+installed_run journal t (e ∷ es) old run =
+    let now : Installed (journal ++ e ∷ []) (step t e.call).after = each_act journal t (max t.moment e.call.at) e.place e.call.at e.call.act e.reply (sym run.1) old in
+    subst (λ fs. Installed fs (table_after t (e ∷ es))) (append_assoc journal (e ∷ []) es) (installed_run (journal ++ e ∷ []) (step t e.call).after es now run.2)
+
+none_installed : Installed [] empty_table
+none_installed = record { known = record { count = refl; live = tt; retired = tt }; fresh = λ key past. refl }
+
+pub installed : (r : Recorded) → IsTold r → Installed r.journal r.now
+installed r told = subst (λ t. Installed r.journal t) told.last (installed_run [] empty_table r.journal none_installed told.run)
