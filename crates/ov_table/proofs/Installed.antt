@@ -12,13 +12,14 @@ use Rattle.ov_model.specs.declared.act.Act.TheVariants as act
 use Rattle.ov_model.specs.declared.reply.Reply.{Reply}
 use Rattle.ov_model.specs.declared.reply.Reply.TheVariants as reply
 use Rattle.ov_model.specs.declared.entry.Entry.{Entry}
-use Rattle.ov_model.specs.Tables.{Material, Peer, Key, Table, empty_table}
-use Rattle.ov_model.specs.Step.{Outcome, key_of_conf, key_new, act_step, step}
+use Rattle.ov_model.specs.Tables.{Material, Peer, Key, Table, empty_table, keys_in, by_key}
+use Rattle.ov_model.specs.Step.{Outcome, has_key, key_of_conf, key_new, act_step, step}
 use Rattle.ov_model.specs.Keys.{key_of, key_by}
 use Rattle.ov_model.specs.Runs.{Follows, table_after}
 use Rattle.ov_model.proofs.Lanes.{all_weaker}
+use Rattle.ov_table.specs.Pairs.{key_of_peer, live_key, retired_key, material_if_any, pair_in}
 use Rattle.ov_table.specs.Recorded.{Recorded, IsTold}
-use Rattle.ov_table.proofs.Kept.{OneHolds, SlotsHold, Holds, Keeps, KeyNewEnds, no, yes, new_key_ends, NoNewKey, act_keeps}
+use Rattle.ov_table.proofs.Kept.{OneHolds, SlotsHold, Holds, Keeps, KeyNewEnds, no, yes, new_key_ends, NoNewKey, act_keeps, slots_all}
 
 abbrev pub AsIn : List Entry → Key → Type 0
 AsIn journal k = key_of journal k.serial ≡ Some k.material
@@ -134,3 +135,46 @@ none_installed = record { known = record { count = refl; live = tt; retired = tt
 
 pub installed : (r : Recorded) → IsTold r → Installed r.journal r.now
 installed r told = subst (λ t. Installed r.journal t) told.last (installed_run [] empty_table r.journal none_installed told.run)
+
+-- ---- what the table's look-up of a key gives
+
+key_in : (es : List Entry) (key : ℕ) (keys : List Key) (k : Key) → find (λ x. x.serial == key) keys ≡ Some k → AllByRecursion (AsIn es) keys → key_of es key ≡ Some k.material
+key_in es key [] k is all = absurd (let e : ◌≡◌ None (Some k) = is in cc)
+key_in es key (x ∷ keys) k is all =
+    elim (x.serial == key)
+    as (λ b. (x.serial == key) ≡ b → (if b then Some x else find (λ y. y.serial == key) keys) ≡ Some k → key_of es key ≡ Some k.material)
+    [ true ↦ λ same is.
+        let n : x.serial ≡ key = grind (arith, nat_tests, same) in
+        let here : key_of es key ≡ Some x.material = subst (λ n. key_of es n ≡ Some x.material) n all.0 in
+        let e : x ≡ k = (let e : ◌≡◌ (Some x) (Some k) = is in cc) in
+        subst (λ y. key_of es key ≡ Some y.material) e here
+    | false ↦ λ same is. key_in es key keys k is all.1 ]
+    refl is
+
+found_all : {X : Type 0} (P : X → Type 0) (p : X → Bool) (xs : List X) (y : X) → find p xs ≡ Some y → AllByRecursion P xs → P y
+found_all P p [] y is all = absurd (let e : ◌≡◌ None (Some y) = is in cc)
+found_all P p (x ∷ xs) y is all =
+    elim (p x)
+    as (λ b. (if b then Some x else find p xs) ≡ Some y → P y)
+    [ true ↦ λ is. subst P (let e : ◌≡◌ (Some x) (Some y) = is in cc) all.0 | false ↦ λ is. found_all P p xs y is all.1 ]
+    is
+
+in_key : (es : List Entry) (key : ℕ) (keys : List Key) (o : Option Key) (m : Material) → find (λ k. k.serial == key) keys ≡ o → AllByRecursion (AsIn es) keys → material_if_any o ≡ Some m → key_of es key ≡ Some m
+in_key es key keys None m is all gives = absurd (let e : ◌≡◌ None (Some m) = gives in cc)
+in_key es key keys (Some k) m is all gives = key_in es key keys k is all ∙ gives
+
+in_peer : (es : List Entry) (key : ℕ) (peers : List Peer) (o : Option Peer) (m : Material) → find (has_key key) peers ≡ o → AllByRecursion (λ p. SlotsHold (AsIn es) p.slots) peers → material_if_any (key_of_peer key o) ≡ Some m → key_of es key ≡ Some m
+in_peer es key peers None m is all gives = absurd (let e : ◌≡◌ None (Some m) = gives in cc)
+in_peer es key peers (Some p) m is all gives = in_key es key (keys_in p.slots) (by_key key p.slots) m refl (slots_all (AsIn es) p.slots (found_all (λ q. SlotsHold (AsIn es) q.slots) (has_key key) peers p is all)) gives
+
+in_either : (a b : Option Material) (m : Material) (Goal : Type 0) → (a ≡ Some m → Goal) → (b ≡ Some m → Goal) → option_or a b ≡ Some m → Goal
+in_either None b m Goal f g is = g is
+in_either (Some x) b m Goal f g is = f is
+
+pub pair_installed : (r : Recorded) (key : ℕ) (m : Material) → IsTold r → pair_in r.now key ≡ Some m → key_of r.journal key ≡ Some m
+pair_installed r key m told is =
+    let all : Installed r.journal r.now = installed r told in
+    in_either (material_if_any (live_key key r.now.live)) (material_if_any (retired_key key r.now.retired)) m (key_of r.journal key ≡ Some m)
+        (in_peer r.journal key r.now.live (find (has_key key) r.now.live) m refl all.known.live)
+        (in_key r.journal key r.now.retired (retired_key key r.now.retired) m refl all.known.retired)
+        is

@@ -74,7 +74,7 @@ one_all : (P : Key → Type 0) (k : Option Key) → OneHolds P k → AllByRecurs
 one_all P None h = tt
 one_all P (Some k) h = (h, tt)
 
-slots_all : (P : Key → Type 0) (s : Slots) → SlotsHold P s → AllByRecursion P (keys_in s)
+pub slots_all : (P : Key → Type 0) (s : Slots) → SlotsHold P s → AllByRecursion P (keys_in s)
 slots_all P s h = all_append P (key_if_any s.primary) (key_if_any s.secondary) (one_all P s.primary h.primary) (one_all P s.secondary h.secondary)
 
 in_slot_holds : (P : Key → Type 0) (slot : Slot) (s : Slots) → SlotsHold P s → OneHolds P (in_slot slot s)
