@@ -1,4 +1,5 @@
 pub mod Floats
+pub mod Held
 pub mod Installed
 pub mod Kept
 pub mod Outcomes
