@@ -142,13 +142,14 @@ key_in : (es : List Entry) (key : ℕ) (keys : List Key) (k : Key) → find (λ 
 key_in es key [] k is all = absurd (let e : ◌≡◌ None (Some k) = is in cc)
 key_in es key (x ∷ keys) k is all =
     elim (x.serial == key)
-    as (λ b. (x.serial == key) ≡ b → (if b then Some x else find (λ y. y.serial == key) keys) ≡ Some k → key_of es key ≡ Some k.material)
-    [ true ↦ λ same is.
-        let n : x.serial ≡ key = grind (arith, nat_tests, same) in
-        let here : key_of es key ≡ Some x.material = subst (λ n. key_of es n ≡ Some x.material) n all.0 in
-        let e : x ≡ k = (let e : ◌≡◌ (Some x) (Some k) = is in cc) in
-        subst (λ y. key_of es key ≡ Some y.material) e here
-    | false ↦ λ same is. key_in es key keys k is all.1 ]
+    as (λ b. (x.serial == key) ≡ b → (if b then Some x else find (λ y. y.serial == key) keys) ≡ Some k → key_of es key ≡ Some k.material) [
+      | true ↦ λ same is.
+          let n : x.serial ≡ key = grind (arith, nat_tests, same) in
+          let here : key_of es key ≡ Some x.material = subst (λ n. key_of es n ≡ Some x.material) n all.0 in
+          let e : x ≡ k = (let e : ◌≡◌ (Some x) (Some k) = is in cc) in
+          subst (λ y. key_of es key ≡ Some y.material) e here
+      | false ↦ λ same is. key_in es key keys k is all.1
+    ]
     refl is
 
 found_all : {X : Type 0} (P : X → Type 0) (p : X → Bool) (xs : List X) (y : X) → find p xs ≡ Some y → AllByRecursion P xs → P y
@@ -175,6 +176,6 @@ pub pair_installed : (r : Recorded) (key : ℕ) (m : Material) → IsTold r → 
 pair_installed r key m told is =
     let all : Installed r.journal r.now = installed r told in
     in_either (material_if_any (live_key key r.now.live)) (material_if_any (retired_key key r.now.retired)) m (key_of r.journal key ≡ Some m)
-        (in_peer r.journal key r.now.live (find (has_key key) r.now.live) m refl all.known.live)
-        (in_key r.journal key r.now.retired (retired_key key r.now.retired) m refl all.known.retired)
-        is
+    (in_peer r.journal key r.now.live (find (has_key key) r.now.live) m refl all.known.live)
+    (in_key r.journal key r.now.retired (retired_key key r.now.retired) m refl all.known.retired)
+    is

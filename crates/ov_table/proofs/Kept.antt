@@ -154,10 +154,13 @@ key_new_no P t now c e h = no e refl (keeps_replied P t.keys_made t now (reply.R
 key_made_ends : (P : Key → Type 0) (t : Table) (now : ℕ) (c : KeyConf) (i : ℕ) (p : Peer) → SlotsHold P p.slots → Holds P t.keys_made t → KeyNewEnds P t c (model.key_made t now c i p)
 key_made_ends P t now c i p slots h =
     let q : Peer = record p { slots = with_slot c.slot (Some (model.key_of_conf t.keys_made c)) p.slots } in
-    yes refl (λ new. record { holds = record {
-      count = refl;
-      live = all_set (λ q. SlotsHold P q.slots) t.live i q (with_slot_holds P c.slot (model.key_of_conf t.keys_made c) p.slots new slots) h.live;
-      retired = all_append P t.retired (key_if_any (in_slot c.slot p.slots)) h.retired (one_all P (in_slot c.slot p.slots) (in_slot_holds P c.slot p.slots slots)) } })
+    yes refl (λ new. record {
+      holds = record {
+        count = refl;
+        live = all_set (λ q. SlotsHold P q.slots) t.live i q (with_slot_holds P c.slot (model.key_of_conf t.keys_made c) p.slots new slots) h.live;
+        retired = all_append P t.retired (key_if_any (in_slot c.slot p.slots)) h.retired (one_all P (in_slot c.slot p.slots) (in_slot_holds P c.slot p.slots slots));
+      };
+    })
 
 key_new_ends : (P : Key → Type 0) (t : Table) (now : ℕ) (c : KeyConf) (i : ℕ) (p : Option Peer) → slice_get t.live i ≡ p → Holds P t.keys_made t → KeyNewEnds P t c (model.key_new_found t now c i p)
 key_new_ends P t now c i None is h = key_new_no P t now c NoEntry h
