@@ -1,4 +1,7 @@
 pub mod Floats
+pub mod Held
+pub mod Installed
+pub mod Kept
 pub mod Outcomes
 pub mod Places
 pub mod Told

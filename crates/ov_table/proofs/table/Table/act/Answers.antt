@@ -12,5 +12,5 @@ invariant_of-self-2 c = (
       (search rules)
       (search rules)
       c.self.invariant.0,
-  omega (arith, c.room.ensures, c.in_ok-reserve.ensures.ok, c.in_ok-outcome.ensures.more),
+  omega (arith, c.in_ok-reserve.ensures.ok, c.in_ok-outcome.ensures.more),
 )
