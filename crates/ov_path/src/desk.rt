@@ -38,10 +38,10 @@ pub trait Desk {
         ensures grows { Grows (material self.old) (material self.new) }
         ensures via { via self.new ≡ via self.old };
 
-    /// The two directions of a key, which are there where the key is held. This makes no event: what an
+    /// The two directions of a key: None, or what the desk has of it, and Some where the key is held. This makes no event: what an
     /// event makes of the desk afterwards it makes of the desk before, too.
     fn pair(&mut self, key: u32) -> Option<KeyPair>
-        ensures is { result ≡ material self.new key }
+        ensures is { (m : Material) → result ≡ Some m → material self.new key ≡ Some m }
         ensures some { HoldsKey (shown self.old).hold key → IsSome result }
         ensures same { shown self.new ≡ shown self.old }
         ensures quiet { (e : Event) (d : Self) → does self.new e d → does self.old e d }
