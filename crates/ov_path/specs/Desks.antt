@@ -47,11 +47,20 @@ abbrev pub LeftPeer : Holding → ℕ → Type 0
 LeftPeer (PeerLeft h) peer = h.peer ≡ peer
 LeftPeer _ peer = ⊥
 
--- A line asks a counter and a replay window right after its look-up, and says that a key is spent right
--- after its counter said so. A desk may rely on that: a hold draws once and is judged once.
+-- A line asks a counter or a replay window right after its look-up, says that it sent or that the key is
+-- spent right after its draw, and settles right after the window accepted. A desk may rely on that: a hold
+-- draws once, is judged once and is used once.
 abbrev pub IsLooked : Stand → Type 0
 IsLooked (stand.Looked h) = ⊤
 IsLooked _ = ⊥
+
+abbrev pub IsDrawn : Stand → Type 0
+IsDrawn (stand.Drew h (drawn.Id n)) = ⊤
+IsDrawn _ = ⊥
+
+abbrev pub IsJudged : Stand → Type 0
+IsJudged (stand.Judged h) = ⊤
+IsJudged _ = ⊥
 
 abbrev pub IsSpent : Stand → Type 0
 IsSpent (stand.Drew h drawn.Spent) = ⊤
@@ -66,8 +75,8 @@ abbrev pub MayCall : Shown → Act → Type 0
 MayCall w (act.Do c) = IsFree w
 MayCall w (act.TxLook a) = IsFree w
 MayCall w (act.RxLook id key_id from) = IsFree w
-MayCall w (act.Sent peer inner outer ping) = HoldsPeer w.hold peer
-MayCall w (act.Settle peer from kind inner outer) = HoldsPeer w.hold peer
+MayCall w (act.Sent peer inner outer ping) = HoldsPeer w.hold peer × IsDrawn (stand_of w.events)
+MayCall w (act.Settle peer from kind inner outer) = HoldsPeer w.hold peer × IsJudged (stand_of w.events)
 MayCall w (act.Spend peer key) = HoldsPeer w.hold peer × HoldsKey w.hold key × IsSpent (stand_of w.events)
 MayCall w (act.Released peer) = ⊥
 MayCall w (act.KeyReleased key) = ⊥
