@@ -2,5 +2,9 @@
 #![tactic(auto)]
 
 mod desk;
+mod open;
+mod seal;
+mod walk;
 
 pub use desk::Desk;
+pub use walk::{Progress, Walk};

@@ -1,0 +1,22 @@
+-- What a line is asked to have, and what its parts say.
+use Rattle.std.specs.Prelude.{ℕ, ⊤, ◌≤◌, length, List, Bool, true, false, Option, Some, None}
+use Rattle.ov_model.specs.declared.line.Deed.{Deed}
+use Rattle.ov_model.specs.declared.line.Deed.TheVariants as deed
+use Rattle.ov_model.specs.Packets.{HeadKind, short, data_v1, control, data_v2}
+
+-- The most bytes of an inner packet to be sent and of a received datagram: what UDP over IPv4 carries, and
+-- 24 bytes less.
+abbrev pub Fits : Deed → Type 0
+Fits (deed.Netlink m) = ⊤
+Fits (deed.Tx packet) = length packet ≤ 65483
+Fits (deed.Rx from bytes) = length bytes ≤ 65507
+
+-- A datagram's head is that of a data packet of the second version.
+abbrev pub IsData : HeadKind → Type 0
+IsData (data_v2 id key_id packet_id) = ⊤
+IsData _ = ⊥
+
+-- The text, where there is one.
+abbrev pub text_if : Bool → List ℕ → Option (List ℕ)
+text_if true text = Some text
+text_if false text = None
