@@ -107,9 +107,14 @@ owed_if More o = []
 owed_if Last o = o ∷ []
 
 -- A look-up that found its peer and key holds them.
-abbrev pub held_after : Holding → Reply → Holding
-held_after before (reply.Hold h) = Both h
-held_after before _ = before
+abbrev pub look_holds : Holding → Reply → Holding
+look_holds before (reply.Hold h) = Both h
+look_holds before _ = before
+
+abbrev pub held_after : Holding → Act → Reply → Holding
+held_after before (act.TxLook a) r = look_holds before r
+held_after before (act.RxLook id key_id from) r = look_holds before r
+held_after before _ r = before
 
 -- Which replies a step has. Those of the commands are the table's business.
 abbrev pub IsLookReply : Reply → Type 0
@@ -146,9 +151,14 @@ Joins (act.Spend peer key) r taken joined = (taken ≡ spent_taken (is_killed r)
 Joins _ r taken joined = (taken ≡ []) × (joined ≡ [])
 
 -- The key of a hold has its material.
-abbrev pub HasMaterial : (ℕ → Option Material) → Reply → Type 0
-HasMaterial material (reply.Hold h) = (m : Material) × (material h.key ≡ Some m)
-HasMaterial material _ = ⊤
+abbrev pub HoldHas : (ℕ → Option Material) → Reply → Type 0
+HoldHas material (reply.Hold h) = (m : Material) × (material h.key ≡ Some m)
+HoldHas material _ = ⊤
+
+abbrev pub HasMaterial : (ℕ → Option Material) → Act → Reply → Type 0
+HasMaterial material (act.TxLook a) r = HoldHas material r
+HasMaterial material (act.RxLook id key_id from) r = HoldHas material r
+HasMaterial material _ r = ⊤
 
 abbrev pub stepped_as : Place → Call → Reply → List ℕ → Event
 stepped_as place call r taken = Stepped (record { entry = record { place = place; call = call; reply = r }; taken = taken })
@@ -160,8 +170,8 @@ pub record Called {D : Type 0} (does : Event → D → Type 0) (old : Shown) (pl
   pub joined : List Owed
   pub fits : IsReplyOf call.act r
   pub joins : Joins call.act r taken joined
-  pub has : HasMaterial material r
-  pub new_is : new ≡ record { events = old.events ++ stepped_as place call r taken ∷ []; hold = held_after old.hold r; owing = old.owing ++ joined }
+  pub has : HasMaterial material call.act r
+  pub new_is : new ≡ record { events = old.events ++ stepped_as place call r taken ∷ []; hold = held_after old.hold call.act r; owing = old.owing ++ joined }
   pub done : does (stepped_as place call r taken) desk
 
 -- What a desk has of the keys stays, and may become more.

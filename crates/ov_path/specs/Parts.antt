@@ -2,7 +2,13 @@
 use Rattle.std.specs.Prelude.{ℕ, ⊤, ◌≤◌, length, List, Bool, true, false, Option, Some, None}
 use Rattle.ov_model.specs.declared.line.Deed.{Deed}
 use Rattle.ov_model.specs.declared.line.Deed.TheVariants as deed
+use Rattle.ov_model.specs.declared.replay.Verdict.{Verdict}
+use Rattle.ov_model.specs.declared.replay.Verdict.TheVariants as verdict
+use Rattle.ov_model.specs.declared.answer.DropCause.{DropCause}
 use Rattle.ov_model.specs.Packets.{HeadKind, short, data_v1, control, data_v2}
+use Rattle.ov_model.specs.Path.{Begin, at_once, first, cause_of}
+use Rattle.ov_path.specs.declared.begun.Begun.{Begun}
+use Rattle.ov_path.specs.declared.begun.Begun.TheVariants.{AtOnce, First}
 
 -- The most bytes of an inner packet to be sent and of a received datagram: what UDP over IPv4 carries, and
 -- 24 bytes less.
@@ -20,3 +26,13 @@ IsData _ = ⊥
 abbrev pub text_if : Bool → List ℕ → Option (List ℕ)
 text_if true text = Some text
 text_if false text = None
+
+-- What the code says of a line's beginning.
+abbrev pub begin_told : Begun → Begin
+begin_told (AtOnce a) = at_once a
+begin_told (First a) = first a
+
+-- Why a packet id isn't taken, where it isn't.
+abbrev pub refusal : Verdict → Option DropCause
+refusal verdict.Accept = None
+refusal v = Some (cause_of v)

@@ -1,6 +1,7 @@
 //! The steps of one line, over any desk.
 #![tactic(auto)]
 
+mod begun;
 mod desk;
 mod open;
 mod seal;
