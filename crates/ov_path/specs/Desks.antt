@@ -67,10 +67,11 @@ IsSpent (stand.Drew h drawn.Spent) = ⊤
 IsSpent _ = ⊥
 
 abbrev pub IsFree : Shown → Type 0
-IsFree w = (w.hold ≡ NoHold) × (w.owing ≡ [])
+IsFree w = (w.hold ≡ NoHold) × (w.owing ≡ []) × (stand_of w.events ≡ stand.Fresh)
 
 -- Which steps of the table a line may ask for: a command and a look-up where it holds and owes nothing,
--- the others of the peer and the key that it holds. Releases are asked for otherwise.
+-- the others of the peer and the key that it holds. Releases are asked for otherwise. A line begins with its
+-- command or its look-up.
 abbrev pub MayCall : Shown → Act → Type 0
 MayCall w (act.Do c) = IsFree w
 MayCall w (act.TxLook a) = IsFree w
