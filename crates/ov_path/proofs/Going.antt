@@ -50,7 +50,7 @@ see_all-append s (x ∷ es) e = see_all-append (see s x) es e
 pub seen : (s : Stand) (es : List Event) (e : Event) → stand_of es ≡ s → stand_of (es ++ e ∷ []) ≡ see s e
 seen s es e is = see_all-append stand.Fresh es e ∙ ap (λ x. see x e) is
 
-same_head : {A : Type 0} (x : A) (xs ys : List A) → xs ≡ ys → x ∷ xs ≡ x ∷ ys
+pub same_head : {A : Type 0} (x : A) (xs ys : List A) → xs ≡ ys → x ∷ xs ≡ x ∷ ys
 same_head x xs ys e = ap (λ zs. x ∷ zs) e
 
 pub released-append : (place : Place) (at : ℕ) (done : List Owed) (o : Owed) → released place at (done ++ o ∷ []) ≡ released place at done ++ Stepped (release_of place at o) ∷ []
@@ -277,7 +277,7 @@ key_given_step {w = w} {h = h} {u = u} g k grows same is = rw same (rw is (recor
   trail = record { m = k.trail.m; key = g; done = []; fits = k.trail.fits; held = held_more (GaveKey h.key g) k.trail.held grows; owes = rw k.trail.owes refl; answer = k.trail.answer };
 }))
 
-all_done : (done os all : List Owed) → done ++ os ≡ all → os ≡ [] → done ≡ all
+pub all_done : (done os all : List Owed) → done ++ os ≡ all → os ≡ [] → done ≡ all
 all_done done os all are none = let e : done ++ [] ≡ all = rw (← none) are in sym (append-nil done) ∙ e
 
 pub peer_given_step : {m n : ℕ → Option Material} {via vib : Addr → Addr} {place : Place} {line : Line} {w v : Shown} {h : HoldView} {u : Use} {a : Option Answer} (g : Given) →
