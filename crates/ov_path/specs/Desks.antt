@@ -66,6 +66,13 @@ abbrev pub IsSpent : Stand → Type 0
 IsSpent (stand.Drew h drawn.Spent) = ⊤
 IsSpent _ = ⊥
 
+-- What is held is still to be used.
+abbrev pub IsUnused : Stand → Type 0
+IsUnused (stand.Looked h) = ⊤
+IsUnused (stand.Drew h d) = ⊤
+IsUnused (stand.Judged h) = ⊤
+IsUnused _ = ⊥
+
 abbrev pub IsFree : Shown → Type 0
 IsFree w = (w.hold ≡ NoHold) × (w.owing ≡ []) × (stand_of w.events ≡ stand.Fresh)
 

@@ -7,7 +7,7 @@ ghost use Rattle.ov_model.specs.declared.hold.Owed.TheVariants as owed;
 ghost use Rattle.ov_model.specs.Tables.{Material};
 ghost use Rattle.ov_model.specs.Events.{Event, Stepped, Judged, Drew, GaveKey, GavePeer, release_of};
 ghost use Rattle.ov_model.specs.Next.{stand_of};
-ghost use Rattle.ov_path.specs.Desks.{Shown, Called, Grows, MayCall, HoldsKey, IsLooked, LeftPeer, with_event, peer_left, owed_if, first_owed, after_first, NoHold};
+ghost use Rattle.ov_path.specs.Desks.{Shown, Called, Grows, MayCall, HoldsKey, IsLooked, IsUnused, LeftPeer, with_event, peer_left, owed_if, first_owed, after_first, NoHold};
 
 use ov_base::{Addr, Memory};
 use ov_keys::KeyPair;
@@ -38,11 +38,11 @@ pub trait Desk {
         ensures grows { Grows (material self.old) (material self.new) }
         ensures via { via self.new ≡ via self.old };
 
-    /// The two directions of a key: None, or what the desk has of it, and Some where the key is held. This makes no event: what an
+    /// The two directions of a key: None, or what the desk has of it, and Some where the key is held and not used yet. This makes no event: what an
     /// event makes of the desk afterwards it makes of the desk before, too.
     fn pair(&mut self, key: u32) -> Option<KeyPair>
         ensures is { (m : Material) → result ≡ Some m → material self.new key ≡ Some m }
-        ensures some { HoldsKey (shown self.old).hold key → IsSome result }
+        ensures some { HoldsKey (shown self.old).hold key → IsUnused (stand_of (shown self.old).events) → IsSome result }
         ensures same { shown self.new ≡ shown self.old }
         ensures quiet { (e : Event) (d : Self) → does self.new e d → does self.old e d }
         ensures grows { Grows (material self.old) (material self.new) }
