@@ -1,5 +1,5 @@
 -- How a line begins: by its head, and never with what was sealed.
-use Rattle.std.proofs.Common.{ℕ, ◌≡◌, List, [], refl, ap, subst}
+use Rattle.std.proofs.Common.{ℕ, ◌≡◌, List, [], refl, sym, ap, subst}
 use Rattle.std.specs.Prelude.{Option, Some, None, Result, Ok, Err}
 use Rattle.ov_base.specs.declared.address.Addr.{Addr}
 use Rattle.ov_base.specs.declared.address.Transport.{Transport}
@@ -17,10 +17,10 @@ use Rattle.ov_model.specs.Checked.{checked}
 use Rattle.ov_model.specs.Events.{DrawnId}
 use Rattle.ov_model.specs.Keys.{sealed_ids}
 use Rattle.ov_model.specs.Packets.{HeadKind, short, data_v1, control, data_v2, head_of, Inner, v4, v6, not_ip, inner_of}
-use Rattle.ov_model.specs.Path.{Begin, at_once, first, begins, begins_netlink, begins_tx, begins_rx, rx_look_by}
+use Rattle.ov_model.specs.Path.{Begin, at_once, first, begins, begins_netlink, begins_tx, begins_rx, rx_look_by, IsLook}
 use Rattle.ov_model.proofs.PeerIds.{peer_id_of, key_id_of}
 use Rattle.ov_packet.specs.declared.head.Head.{Head}
-use Rattle.ov_path.specs.Parts.{IsData}
+use Rattle.ov_path.specs.Parts.{IsData, CanHold}
 
 look_by : (from : Transport) (id : PeerId) (key : KeyId) (a : Option PeerId) (b : Option KeyId) → Some id ≡ a → Some key ≡ b → first (act.RxLook id key from) ≡ rx_look_by a b from
 look_by from id key a b e f = rw (← e) (rw (← f) refl)
@@ -71,3 +71,20 @@ unsealed via (deed.Rx from bytes) = unsealed_rx from (head_of bytes)
 
 pub at_once_unsealed : (via : Addr → Addr) (d : Deed) (a : Answer) → begins via d ≡ at_once a → sealed_ids a ≡ []
 at_once_unsealed via d a e = let same : unsealed_ids (begins via d) ≡ sealed_ids a = ap unsealed_ids e in rw (← same) (unsealed via d)
+
+-- A line that begins with a look-up can hold.
+abbrev looks_first : Begin → Type 0
+looks_first (at_once a) = ⊥
+looks_first (first a) = IsLook a
+
+not_netlink : (r : Result Command Errno) → looks_first (begins_netlink r) → ⊥
+not_netlink (Ok c) looks = looks
+not_netlink (Err e) looks = looks
+
+holds_by : (via : Addr → Addr) (d : Deed) → looks_first (begins via d) → CanHold d
+holds_by via (deed.Netlink m) looks = absurd (not_netlink (checked m) looks)
+holds_by via (deed.Tx packet) looks = tt
+holds_by via (deed.Rx from bytes) looks = tt
+
+pub can_hold : (via : Addr → Addr) (d : Deed) (a : Act) → begins via d ≡ first a → IsLook a → CanHold d
+can_hold via d a begins_so looks = holds_by via d (let P : Begin → Type 0 = λ b. looks_first b in subst P (sym begins_so) looks)

@@ -1,6 +1,6 @@
 -- A line that is over: its events and its answer have a path.
-use Rattle.std.proofs.Common.{ℕ, ◌≡◌, List, [], ◌∷◌, ◌++◌, refl, sym, ◌∙◌, ap, append-nil, Bool, true, false}
-use Rattle.std.specs.Prelude.{Option, Some, None, map, unwrap_or}
+use Rattle.std.proofs.Common.{ℕ, ◌≡◌, List, [], ◌∷◌, ◌++◌, refl, sym, ◌∙◌, ap, append-nil, subst, Bool, true, false}
+use Rattle.std.specs.Prelude.{Option, Some, None, map, unwrap_or, is_some}
 use Rattle.std.proofs.lemmas.List.{map-append}
 use Rattle.ov_base.specs.declared.address.Addr.{Addr}
 use Rattle.ov_model.specs.declared.place.Place.{Place}
@@ -16,6 +16,7 @@ use Rattle.ov_model.specs.declared.reply.Reply.{Reply}
 use Rattle.ov_model.specs.declared.reply.Reply.TheVariants as reply
 use Rattle.ov_model.specs.declared.stand.Use.{Use}
 use Rattle.ov_model.specs.declared.stand.Use.TheVariants as used
+use Rattle.ov_model.specs.declared.stand.Stand.{Stand}
 use Rattle.ov_model.specs.declared.stand.Stand.TheVariants as stand
 use Rattle.ov_model.specs.declared.line.Line.{Line}
 use Rattle.ov_model.specs.declared.line.Deed.{Deed}
@@ -27,8 +28,10 @@ use Rattle.ov_model.specs.Tables.{Material}
 use Rattle.ov_model.specs.Events.{Event, Stepped, GaveKey, GavePeer, Step, Judgement, DrawnId, step_of, release_of, releases, steps_in, judgements_in, draws_in}
 use Rattle.ov_model.specs.Keys.{sealed_ids}
 use Rattle.ov_model.specs.Path.{at_once, first, begins, IsLook, IsMiss, UseFits, use_steps, use_judgements, use_answer, settled_answer, owed_where, hold_owed, AtOnce, Commanded, Missed, Held as HeldRow, Path}
-use Rattle.ov_path.specs.Desks.{Holding, Shown, Called, NoHold, owed_if, look_holds, stepped_as}
-use Rattle.ov_path.specs.Walks.{released, use_events, AtReplied, AtPeerGiven, Walking, Over}
+use Rattle.ov_path.specs.Desks.{Holding, Shown, Called, NoHold, owed_if, first_owed, look_holds, stepped_as}
+use Rattle.ov_path.specs.Walks.{released, use_events, AtReplied, AtPeerGiven, Walking, Over, IsOpen, Progressed, AnswerIs}
+use Rattle.ov_path.specs.declared.walk.Progress.{Progress}
+use Rattle.ov_path.specs.declared.walk.Progress.TheVariants.{More, Answered}
 use Rattle.ov_path.proofs.Beginning.{at_once_unsealed}
 use Rattle.ov_path.proofs.Going.{LookSays, look_says, all_done, same_head}
 
@@ -196,3 +199,39 @@ held_over {via = via} {place = place} {line = line} {w = w} {h = h} {u = u} b k 
       };
       drawn = ap draws_in t.held.events ∙ draws_of_use via place line.at line.deed h t.m u back t.fits back_draws ∙ ap sealed_ids (sym answer_is);
     }
+
+-- A line that owes a release is open.
+pub open_owing : (s : Stand) (o : Owed) (os : List Owed) → first_owed os ≡ Some o → IsOpen s os
+open_owing s o [] e = absurd (let same : ◌≡◌ {A = Option Owed} None (Some o) = e in cc)
+open_owing stand.Fresh o (x ∷ os) e = tt
+open_owing stand.Replied o (x ∷ os) e = tt
+open_owing stand.Missed o (x ∷ os) e = tt
+open_owing (stand.Looked h) o (x ∷ os) e = tt
+open_owing (stand.Drew h d) o (x ∷ os) e = tt
+open_owing (stand.Judged h) o (x ∷ os) e = tt
+open_owing (stand.Used h u) o (x ∷ os) e = tt
+open_owing (stand.KeyGiven h u) o (x ∷ os) e = tt
+open_owing (stand.PeerGiven h u) o (x ∷ os) e = tt
+
+pub none_owed : (os : List Owed) → first_owed os ≡ None → os ≡ []
+none_owed [] e = refl
+none_owed (x ∷ os) e = absurd (let same : ◌≡◌ {A = Option Owed} (Some x) None = e in cc)
+
+-- The first owed release was asked for, and there is none.
+pub nothing_owed : (q : Option Owed) (b : Bool) (os : List Owed) → q ≡ first_owed os → b ≡ is_some q → b ≡ false → os ≡ []
+nothing_owed q b [] is some none = refl
+nothing_owed q b (x ∷ os) is some none = absurd (let there : b ≡ true = some ∙ rw is refl in cc)
+
+pub finished_replied : {m : ℕ → Option Material} {via : Addr → Addr} {place late : Place} {line : Line} {w : Shown} {s : Stand} {a : Option Answer} (t : Stand) (b : Option Answer) (r : Progress) →
+    Walking m via place line w s a → s ≡ stand.Replied → AnswerIs r a → w.owing ≡ [] → late ≡ place → Progressed m via late line w t b r
+finished_replied t b More k at is none same = absurd is
+finished_replied {m} {via} {place} {late} {line} {w} {s} {a} t b (Answered x) k at is none same =
+    let P : Stand → Option Answer → Type 0 = λ y z. Walking m via place line w y z in
+    rw same (replied_over x (subst (λ y. P y (Some x)) at (subst (λ z. P s z) is k)) none)
+
+pub finished_held : {m : ℕ → Option Material} {via : Addr → Addr} {place late : Place} {line : Line} {w : Shown} {s : Stand} {a : Option Answer} (t : Stand) (b : Option Answer) (h : HoldView) (u : Use) (r : Progress) →
+    Walking m via place line w s a → s ≡ stand.PeerGiven h u → AnswerIs r a → w.owing ≡ [] → late ≡ place → Progressed m via late line w t b r
+finished_held t b h u More k at is none same = absurd is
+finished_held {m} {via} {place} {late} {line} {w} {s} {a} t b h u (Answered x) k at is none same =
+    let P : Stand → Option Answer → Type 0 = λ y z. Walking m via place line w y z in
+    rw same (held_over x (subst (λ y. P y (Some x)) at (subst (λ z. P s z) is k)) none)

@@ -1,5 +1,5 @@
 -- A line that runs goes on: each event leads from one stand to the next.
-use Rattle.std.proofs.Common.{ℕ, ◌≡◌, ◌≢◌, List, [], ◌∷◌, ◌++◌, refl, sym, ◌∙◌, ap, subst, append_assoc, append-nil, true, false, Bool}
+use Rattle.std.proofs.Common.{ℕ, ◌≡◌, ◌≢◌, ◌≤◌, length, List, [], ◌∷◌, ◌++◌, refl, sym, ◌∙◌, ap, subst, append_assoc, append-nil, true, false, Bool}
 use Rattle.std.specs.Prelude.{Option, Some, None, map, unwrap_or, IsSome}
 use Rattle.ov_base.specs.declared.address.Addr.{Addr}
 use Rattle.ov_base.specs.declared.address.Transport.{Transport}
@@ -37,8 +37,9 @@ use Rattle.ov_model.specs.Events.{Event, Stepped, Judged, Drew, GaveKey, GavePee
 use Rattle.ov_model.specs.Path.{first, begins, IsLook, UseFits, use_answer, sent_act, settle_act, packet_in, sealed_datagram, cause_of, settled_answer, spent_reply, spent_taken}
 use Rattle.ov_model.specs.Next as next
 use Rattle.ov_model.specs.Next.{see, see_all, stand_of, is_killed, began, looked}
-use Rattle.ov_path.specs.Desks.{Holding, NoHold, Both, PeerLeft, Shown, Called, Joins, HasMaterial, HoldHas, IsSpendReply, look_holds, Grows, with_event, held_after, peer_left, owed_if, first_owed, after_first, stepped_as}
+use Rattle.ov_path.specs.Desks.{Holding, NoHold, Both, PeerLeft, Shown, Called, Joins, HasMaterial, HoldHas, IsReplyOf, IsLookReply, IsSpendReply, IsFree, MayCall, look_holds, Grows, with_event, held_after, peer_left, owed_if, first_owed, after_first, stepped_as}
 use Rattle.ov_path.specs.Parts.{refusal}
+use Rattle.ov_path.proofs.Beginning.{can_hold}
 use Rattle.ov_path.specs.Walks.{released, judged_as, use_events, Opens, Held, IsTx, AtReplied, AtKeyGiven, AtPeerGiven, Trail, Walking, holding_of}
 
 -- ---- events
@@ -114,13 +115,14 @@ pub looked_step : {D : Type 0} {does : Event → D → Type 0} {desk : D} {m n :
     Walking m via place line w stand.Fresh a → begins via line.deed ≡ first look → IsLook look → vib ≡ via →
     Called does w place (record { at = line.at; act = look }) (reply.Hold h) n v desk →
     Walking n vib place line v (stand.Looked h) None
-looked_step {n = n} {place = place} {line = line} {w = w} look h k begins_so is_look same called =
+looked_step {n = n} {via = via} {place = place} {line = line} {w = w} look h k begins_so is_look same called =
     let says : LookSays n w.hold look (reply.Hold h) called.taken called.joined = look_says n w.hold look (reply.Hold h) called.taken called.joined is_look called.joins called.has in
     rw same (rw called.new_is (record {
       stand = seen stand.Fresh w.events (stepped_as place (record { at = line.at; act = look }) (reply.Hold h) called.taken) k.stand ∙ says.began_so;
       hold = says.hold;
       trail = record {
         m = says.has.0;
+        can = can_hold via line.deed look begins_so is_look;
         held = record { look = look; begins_so = begins_so; has = says.has.1; events = rw (k.trail.none, says.takes) refl };
         owes = rw (k.trail.owes, says.joins) refl;
         answer = refl;
@@ -183,16 +185,17 @@ bad_tag_step {w = w} {h = h} p g k deed_is has closed same is = rw same (rw is (
 }))
 
 pub judged_step : {m n : ℕ → Option Material} {via vib : Addr → Addr} {place : Place} {line : Line} {w v : Shown} {h : HoldView} {a : Option Answer} {from : Transport} {bytes packet : List ℕ} (p : Material) (id : ℕ) →
-    Walking m via place line w (stand.Looked h) a → line.deed ≡ deed.Rx from bytes → n h.key ≡ Some p → Some packet ≡ opened p.decrypt bytes → vib ≡ via → id ≡ packet_id_of bytes →
+    Walking m via place line w (stand.Looked h) a → line.deed ≡ deed.Rx from bytes → n h.key ≡ Some p → Some packet ≡ opened p.decrypt bytes → length packet ≤ 65536 → vib ≡ via → id ≡ packet_id_of bytes →
     v ≡ with_event w (Judged (record { place = place; key = h.key; id = id; at = line.at; verdict = verdict.Accept })) →
     Walking n vib place line v (stand.Judged h) (Some (answer.Delivered h.id packet))
-judged_step {place = place} {line = line} {w = w} {h = h} {bytes = bytes} {packet = packet} p id k deed_is has inner same id_is is = rw same (rw is (rw id_is (record {
+judged_step {place = place} {line = line} {w = w} {h = h} {bytes = bytes} {packet = packet} p id k deed_is has inner short same id_is is = rw same (rw is (rw id_is (record {
   stand = seen (stand.Looked h) w.events (judged_as place line.at h bytes verdict.Accept) k.stand;
   hold = k.hold;
   trail = record {
     m = p;
     later = judged_as place line.at h bytes verdict.Accept ∷ [];
     packet = packet;
+    short = short;
     held = record { look = k.trail.held.look; begins_so = k.trail.held.begins_so; has = has; events = rw k.trail.held.events refl };
     opens = rw deed_is (sym inner, refl);
     owes = k.trail.owes;
@@ -374,3 +377,34 @@ release_step {place = place} {line = line} {w = w} {s = s} o k e grows same is =
   hold = k.hold;
   trail = released_trail _ _ _ place line _ w.events w.owing s o k.trail e grows;
 }))
+
+-- A look-up's replies.
+pub look_reply : (a : Act) (r : Reply) → IsLook a → IsReplyOf a r → IsLookReply r
+look_reply (act.TxLook x) r look fits = fits
+look_reply (act.RxLook id key_id from) r look fits = fits
+look_reply _ r look fits = absurd look
+
+-- A look-up is made where nothing is held.
+pub look_may : (w : Shown) (a : Act) → IsLook a → IsFree w → MayCall w a
+look_may w (act.TxLook x) look free = free
+look_may w (act.RxLook id key_id from) look free = free
+look_may w _ look free = absurd look
+
+-- The same where the act is known by an equation, after a call without an event.
+pub sent_by : {D : Type 0} {does : Event → D → Type 0} {desk : D} {m n : ℕ → Option Material} {via vib : Addr → Addr} {place : Place} {line : Line} {w u v : Shown} {h : HoldView} {a : Option Answer} {packet : List ℕ} (i : ℕ) (p : Material) (r : Reply) (x : Act) →
+    Walking m via place line w (stand.Drew h (drawn.Id i)) a → u ≡ w → line.deed ≡ deed.Tx packet → n h.key ≡ Some p → vib ≡ via → x ≡ sent_act h packet →
+    Called does u place (record { at = line.at; act = x }) r n v desk →
+    Walking n vib place line v (stand.Used h (used.Sealed i)) (Some (answer.Sealed (record { to = h.to; key = h.key; id = i; datagram = sealed_datagram h p i packet })))
+sent_by {D} {does} {desk} {m} {n} {via} {vib} {place} {line} {w} {u} {v} {h} {a} {packet} i p r x k quiet deed_is has same x_is called =
+    let P : Act → Type 0 = λ y. Called does u place (record { at = line.at; act = y }) r n v desk in
+    let Q : Shown → Type 0 = λ y. Walking m via place line y (stand.Drew h (drawn.Id i)) a in
+    sent_step i p r (subst Q (sym quiet) k) deed_is has same (subst P x_is called)
+
+pub settled_by : {D : Type 0} {does : Event → D → Type 0} {desk : D} {m n : ℕ → Option Material} {via vib : Addr → Addr} {place : Place} {line : Line} {w v : Shown} {h : HoldView} {b : Option Answer} {id : PeerId} {from : Transport} {bytes packet : List ℕ} (s : Settled) (r : Reply) (x : Act) →
+    Walking m via place line w (stand.Judged h) b → b ≡ Some (answer.Delivered id packet) → line.deed ≡ deed.Rx from bytes → Grows m n → vib ≡ via → x ≡ settle_act via h packet bytes → r ≡ reply.Settled s →
+    Called does w place (record { at = line.at; act = x }) r n v desk →
+    Walking n vib place line v (stand.Used h (used.Settled s)) (Some (settled_answer s h packet))
+settled_by {D} {does} {desk} {m} {n} {via} {vib} {place} {line} {w} {v} {h} {b} {id} {from} {bytes} {packet} s r x k b_is deed_is grows same x_is r_is called =
+    let P : Act → Reply → Type 0 = λ y z. Called does w place (record { at = line.at; act = y }) z n v desk in
+    let Q : Option Answer → Type 0 = λ y. Walking m via place line w (stand.Judged h) y in
+    settled_step s (subst Q b_is k) deed_is grows same (subst (λ z. P (settle_act via h packet bytes) z) r_is (subst (λ y. P y r) x_is called))

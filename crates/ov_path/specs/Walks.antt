@@ -1,5 +1,5 @@
 -- Where a line that runs stands: what happened so far, by cases of the stand, and what one turn does.
-use Rattle.std.specs.Prelude.{ℕ, ◌≡◌, ⊤, List, [], ◌∷◌, ◌++◌, Option, Some, None, map}
+use Rattle.std.specs.Prelude.{ℕ, ◌≡◌, ◌≤◌, length, ⊤, List, [], ◌∷◌, ◌++◌, Option, Some, None, map}
 use Rattle.ov_base.specs.declared.address.Addr.{Addr}
 use Rattle.ov_model.specs.declared.place.Place.{Place}
 use Rattle.ov_model.specs.declared.act.Act.{Act}
@@ -31,6 +31,7 @@ use Rattle.ov_model.specs.Keys.{sealed_ids}
 use Rattle.ov_model.specs.Path.{first, begins, SomeOwed, removed, UseFits, spent_reply, spent_taken, sent_act, settle_act, use_answer, packet_in, Path}
 use Rattle.ov_model.specs.Next.{Ask, Nil, stand_of, request}
 use Rattle.ov_path.specs.Desks.{Holding, NoHold, Both, PeerLeft, Shown, owed_if}
+use Rattle.ov_path.specs.Parts.{CanHold}
 use Rattle.ov_path.specs.declared.walk.Progress.{Progress}
 use Rattle.ov_path.specs.declared.walk.Progress.TheVariants.{More, Answered}
 
@@ -96,6 +97,7 @@ module _ (material : ℕ → Option Material) (via : Addr → Addr) (place : Pla
 
   pub record AtLooked (h : HoldView) (es : List Event) (os : List Owed) (a : Option Answer) : Type 0 where
     pub m : Material
+    pub can : CanHold line.deed
     pub held : Held material via place line h m es []
     pub owes : os ≡ []
     pub answer : a ≡ None
@@ -112,6 +114,7 @@ module _ (material : ℕ → Option Material) (via : Addr → Addr) (place : Pla
     pub m : Material
     pub later : List Event
     pub packet : List ℕ
+    pub short : length packet ≤ 65536
     pub held : Held material via place line h m es later
     pub opens : Opens place line.at h line.deed m later packet
     pub owes : os ≡ []
@@ -191,6 +194,11 @@ pub record Over (material : ℕ → Option Material) (via : Addr → Addr) (plac
 abbrev pub Progressed : (ℕ → Option Material) → (Addr → Addr) → Place → Line → Shown → Stand → Option Answer → Progress → Type 0
 Progressed material via place line w s a More = Walking material via place line w s a × IsOpen s w.owing
 Progressed material via place line w s a (Answered b) = Over material via place line w b
+
+-- What was ready is what is answered.
+abbrev pub AnswerIs : Progress → Option Answer → Type 0
+AnswerIs More a = ⊥
+AnswerIs (Answered b) a = a ≡ Some b
 
 -- A turn made the one event that was asked for.
 pub record Made {D : Type 0} (does : Event → D → Type 0) (asked : Ask) (old new : Shown) (desk : D) : Type 0 where

@@ -4,11 +4,11 @@ ghost use Rattle.std.specs.Prelude.{◌≡◌};
 ghost use Rattle.ov_model.specs.Path.{begins, begins_netlink, begins_tx, begins_rx};
 ghost use Rattle.ov_model.specs.Checked.{checked};
 ghost use Rattle.ov_model.specs.Packets.{inner_of, head_of};
-ghost use Rattle.ov_path.specs.Parts.{begin_told};
+ghost use Rattle.ov_path.specs.Parts.{begin_told, LooksOnly};
 
 use crate::desk::Desk;
 use ov_base::{Addr, Transport};
-use ov_model::{Act, Answer, Deed, DropCause, NlMessage, Reply};
+use ov_model::{Act, Answer, Command, Deed, DropCause, NlMessage, Reply};
 use ov_nl::call_of;
 use ov_packet::{HeadStop, InnerFacts, inner, read_head};
 
@@ -16,13 +16,16 @@ use ov_packet::{HeadStop, InnerFacts, inner, read_head};
 #[derive(Debug, Drop, PartialEq, Eq)]
 pub enum Begun {
     AtOnce(Answer),
-    First(Act),
+    Command(Command),
+    /// A look-up, for a packet or for a datagram.
+    Look(Act),
 }
 
 /// How a line begins at a desk: a netlink message with the command that the attribute checks make of it, a
 /// packet to be sent with the look-up of its next hop, a datagram with the look-up by its head.
 pub fn begin_of<D: Desk>(desk: &D, deed: &Deed) -> Begun
-    ensures { begin_told result ≡ begins (D.via desk.now) deed.now }
+    ensures look { LooksOnly result }
+    ensures begins { begin_told result ≡ begins (D.via desk.now) deed.now }
 {
     match deed {
         Deed::Netlink(message) => begin_netlink(message),
@@ -32,23 +35,25 @@ pub fn begin_of<D: Desk>(desk: &D, deed: &Deed) -> Begun
 }
 
 fn begin_netlink(message: &NlMessage) -> Begun
-    ensures { begin_told result ≡ begins_netlink (checked message.now) }
+    ensures look { LooksOnly result }
+    ensures begins { begin_told result ≡ begins_netlink (checked message.now) }
 {
     match call_of(message) {
-        Ok(command) => Begun::First(Act::Do(command)),
+        Ok(command) => Begun::Command(command),
         Err(errno) => Begun::AtOnce(Answer::Reply(Reply::Refused(errno))),
     }
 }
 
 fn begin_tx<D: Desk>(desk: &D, packet: &[u8]) -> Begun
-    ensures { begin_told result ≡ begins_tx (D.via desk.now) (inner_of packet.now) }
+    ensures look { LooksOnly result }
+    ensures begins { begin_told result ≡ begins_tx (D.via desk.now) (inner_of packet.now) }
 {
     match inner(packet) {
         InnerFacts::V4 { destination, .. } => {
-            Begun::First(Act::TxLook(desk.via(Addr::V4(destination))))
+            Begun::Look(Act::TxLook(desk.via(Addr::V4(destination))))
         }
         InnerFacts::V6 { destination, .. } => {
-            Begun::First(Act::TxLook(desk.via(Addr::V6(destination))))
+            Begun::Look(Act::TxLook(desk.via(Addr::V6(destination))))
         }
         InnerFacts::NotIp => Begun::AtOnce(Answer::Dropped(DropCause::NotIp)),
     }
@@ -56,10 +61,11 @@ fn begin_tx<D: Desk>(desk: &D, packet: &[u8]) -> Begun
 
 #[tactic(auto, using(crate::proofs::Beginning::begins_data))]
 fn begin_rx(from: Transport, datagram: &[u8]) -> Begun
-    ensures { begin_told result ≡ begins_rx from (head_of datagram.now) }
+    ensures look { LooksOnly result }
+    ensures begins { begin_told result ≡ begins_rx from (head_of datagram.now) }
 {
     match read_head(datagram) {
-        Ok(head) => Begun::First(Act::RxLook {
+        Ok(head) => Begun::Look(Act::RxLook {
             id: head.id,
             key_id: head.key_id,
             from,

@@ -2,9 +2,11 @@
 #![tactic(auto)]
 
 mod begun;
+mod calls;
 mod desk;
 mod open;
 mod seal;
+
 mod walk;
 
 pub use desk::Desk;

@@ -1,6 +1,6 @@
 // From a received datagram to the inner packet in it.
 
-ghost use Rattle.std.specs.Prelude.{◌≡◌, ◌≤◌, length, IfOk};
+ghost use Rattle.std.specs.Prelude.{◌≡◌, ◌≤◌, length, IfOk, IfSome};
 ghost use Rattle.ov_model.specs.Packets.{head_of, opened, packet_id_of, sealed_part};
 ghost use Rattle.ov_path.specs.Parts.{IsData, text_if};
 
@@ -32,6 +32,7 @@ pub fn open(alloc: Global, pair: &KeyPair, datagram: &[u8]) -> Result<Option<Oct
     requires data { IsData (head_of datagram.now) }
     requires most { length datagram.now ≤ 65560 }
     ensures ok { IfOk result (λ packet. packet ≡ opened pair.now.decrypt datagram.now) }
+    ensures short { IfOk result (λ packet. IfSome packet (λ text. length text ≤ length datagram.now)) }
 {
     let id = packet_id(datagram);
     let (_, sealed) = datagram.split_at(HEAD_BYTES + TAG_BYTES);
