@@ -36,11 +36,11 @@ use Rattle.ov_model.specs.Packets.{opened, packet_id_of}
 use Rattle.ov_model.specs.Events.{Event, Stepped, Judged, Drew, GaveKey, GavePeer, step_of, release_of, releases}
 use Rattle.ov_model.specs.Path.{first, begins, IsLook, UseFits, use_answer, sent_act, settle_act, packet_in, sealed_datagram, cause_of, settled_answer, spent_reply, spent_taken}
 use Rattle.ov_model.specs.Next as next
-use Rattle.ov_model.specs.Next.{see, see_all, stand_of, is_killed, began, looked}
+use Rattle.ov_model.specs.Next.{Ask, Table, see, see_all, stand_of, is_killed, began, looked}
 use Rattle.ov_path.specs.Desks.{Holding, NoHold, Both, PeerLeft, Shown, Called, Joins, HasMaterial, HoldHas, IsReplyOf, IsLookReply, IsSpendReply, IsFree, MayCall, look_holds, Grows, with_event, held_after, peer_left, owed_if, first_owed, after_first, stepped_as}
 use Rattle.ov_path.specs.Parts.{refusal}
 use Rattle.ov_path.proofs.Beginning.{can_hold}
-use Rattle.ov_path.specs.Walks.{released, judged_as, use_events, Opens, Held, IsTx, AtReplied, AtKeyGiven, AtPeerGiven, Trail, Walking, holding_of}
+use Rattle.ov_path.specs.Walks.{released, judged_as, use_events, Opens, Held, IsTx, AtReplied, AtKeyGiven, AtPeerGiven, Trail, Walking, Made, holding_of}
 
 -- ---- events
 
@@ -242,7 +242,7 @@ refused_step {place = place} {line = line} {w = w} {h = h} {bytes = bytes} {pack
     })))
 
 -- The packet that waits.
-abbrev waiting : Option Answer → List ℕ
+abbrev pub waiting : Option Answer → List ℕ
 waiting (Some (answer.Delivered id packet)) = packet
 waiting _ = []
 
@@ -408,3 +408,32 @@ settled_by {D} {does} {desk} {m} {n} {via} {vib} {place} {line} {w} {v} {h} {b} 
     let P : Act → Reply → Type 0 = λ y z. Called does w place (record { at = line.at; act = y }) z n v desk in
     let Q : Option Answer → Type 0 = λ y. Walking m via place line w (stand.Judged h) y in
     settled_step s (subst Q b_is k) deed_is grows same (subst (λ z. P (settle_act via h packet bytes) z) r_is (subst (λ y. P y r) x_is called))
+
+pub walk_at : {m : ℕ → Option Material} {via : Addr → Addr} {place : Place} {line : Line} {w u : Shown} {s : Stand} {a : Option Answer} → u ≡ w → Walking m via place line w s a → Walking m via place line u s a
+walk_at same k = rw same k
+
+pub judged_by : {m n : ℕ → Option Material} {via vib : Addr → Addr} {place : Place} {line : Line} {w v : Shown} {h : HoldView} {a : Option Answer} {from : Transport} {bytes packet : List ℕ} (p : Material) (id : ℕ) (x : Verdict) →
+    Walking m via place line w (stand.Looked h) a → line.deed ≡ deed.Rx from bytes → n h.key ≡ Some p → Some packet ≡ opened p.decrypt bytes → length packet ≤ 65536 → vib ≡ via → id ≡ packet_id_of bytes → refusal x ≡ None →
+    v ≡ with_event w (Judged (record { place = place; key = h.key; id = id; at = line.at; verdict = x })) →
+    Walking n vib place line v (stand.Judged h) (Some (answer.Delivered h.id packet))
+judged_by {place = place} {line = line} {w = w} {v = v} {h = h} p id x k deed_is has inner short same id_is accepts is =
+    let P : Verdict → Type 0 = λ y. v ≡ with_event w (Judged (record { place = place; key = h.key; id = id; at = line.at; verdict = y })) in
+    judged_step p id k deed_is has inner short same id_is (subst P (is_accepted x accepts) is)
+
+-- A step of the table is the event that was asked for.
+pub table_made : {D : Type 0} {does : Event → D → Type 0} {desk : D} {n : ℕ → Option Material} {place : Place} {w v : Shown} {at : ℕ} {asked : Ask} (x : Act) (r : Reply) →
+    Called does w place (record { at = at; act = x }) r n v desk → Table x ≡ asked → Made does asked w v desk
+table_made {place = place} {at = at} x r called asks = record { event = stepped_as place (record { at = at; act = x }) r called.taken; one = ap (λ y. y.events) called.new_is; asks = asks; done = called.done }
+
+-- After a fresh packet id the table is asked to settle the packet.
+pub settle_asked : {m n : ℕ → Option Material} {via : Addr → Addr} {place : Place} {line : Line} {w : Shown} {h : HoldView} {b : Option Answer} {id : PeerId} {from : Transport} {bytes packet : List ℕ} →
+    Walking m via place line w (stand.Judged h) b → b ≡ Some (answer.Delivered id packet) → line.deed ≡ deed.Rx from bytes → Grows m n → Table (settle_act via h packet bytes) ≡ next.next via n line w.events w.owing
+settle_asked {place = place} {line = line} {h = h} {from = from} {bytes = bytes} {packet = packet} k b_is deed_is grows =
+    let packet_is : packet ≡ k.trail.packet = ap waiting (sym b_is ∙ k.trail.answer) in
+    let P : Deed → Type 0 = λ d. Opens place line.at h d k.trail.m k.trail.later k.trail.packet in
+    let opens : Opens place line.at h (deed.Rx from bytes) k.trail.m k.trail.later k.trail.packet = subst P deed_is k.trail.opens in
+    let inner : opened k.trail.m.decrypt bytes ≡ Some packet = rw packet_is opens.0 in
+    rw (k.stand, k.trail.owes, grows _ _ k.trail.held.has, deed_is, inner) refl
+
+pub settle_act_at : (via : Addr → Addr) (h : HoldView) (p q b d : List ℕ) → p ≡ q → b ≡ d → settle_act via h p b ≡ settle_act via h q d
+settle_act_at via h p q b d same alike = rw same (rw alike refl)

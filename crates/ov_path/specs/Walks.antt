@@ -71,6 +71,10 @@ abbrev pub IsTx : Deed → Type 0
 IsTx (deed.Tx packet) = ⊤
 IsTx _ = ⊥
 
+abbrev pub IsRx : Deed → Type 0
+IsRx (deed.Rx from bytes) = ⊤
+IsRx _ = ⊥
+
 -- A received datagram opens as a packet, and its verdict so far is an event.
 abbrev pub Opens : Place → ℕ → HoldView → Deed → Material → (later : List Event) → (packet : List ℕ) → Type 0
 Opens place at h (deed.Rx from bytes) m later packet = (opened m.decrypt bytes ≡ Some packet) × (later ≡ judged_as place at h bytes verdict.Accept ∷ [])

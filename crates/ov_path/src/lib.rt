@@ -6,7 +6,6 @@ mod calls;
 mod desk;
 mod open;
 mod seal;
-
 mod walk;
 
 pub use desk::Desk;

@@ -8,23 +8,23 @@ ghost use Rattle.ov_model.specs.declared.line.Deed.TheVariants as deed;
 ghost use Rattle.ov_model.specs.declared.act.Act.TheVariants as act;
 ghost use Rattle.ov_model.specs.declared.stand.Stand.TheVariants as stand;
 ghost use Rattle.ov_model.specs.Tables.{Material};
-ghost use Rattle.ov_model.specs.Path.{begins, at_once, first, IsLook};
+ghost use Rattle.ov_model.specs.Path.{begins, first, settled_answer, IsLook};
 ghost use Rattle.ov_model.specs.Events.{Event};
-ghost use Rattle.ov_model.specs.Next.{next};
-ghost use Rattle.ov_path.specs.Desks.{NoHold, HoldsKey, IsLooked, first_owed, Grows};
+ghost use Rattle.ov_model.specs.Next.{next, is_killed, stand_of};
+ghost use Rattle.ov_path.specs.Desks.{NoHold, HoldsKey, IsUnused, first_owed, Grows};
 ghost use Rattle.ov_path.specs.Parts.{Fits, refusal};
-ghost use Rattle.ov_path.specs.Walks.{Walking, IsOpen, Progressed, IsTx, AnswerIs, Made, MadeOrNone};
+ghost use Rattle.ov_path.specs.Walks.{Walking, IsOpen, Progressed, IsTx, IsRx, AnswerIs, Made, MadeOrNone};
 
 use crate::begun::{Begun, begin_of};
 use crate::calls::{sent_of, settle_of};
 use crate::desk::Desk;
 use crate::open::{open, packet_id};
 use crate::seal::seal;
-
-use ov_base::Memory;
+use ov_base::{Memory, Octets};
 use ov_keys::KeyPair;
 use ov_model::{
-    Act, Answer, Call, Command, Deed, DropCause, Drawn, HoldView, Line, Owed, Place, Reply, SealedOut, Settled, Stand, Use, Verdict,
+    Act, Answer, Call, Command, Deed, Drawn, DropCause, HoldView, Line, Owed, Place, Reply,
+    SealedOut, Settled, Stand, Use, Verdict,
 };
 use std::alloc::Global;
 
@@ -151,7 +151,12 @@ impl Walk {
     }
 
     /// A command is made.
-    fn command<D: Desk>(&mut self, desk: &mut D, line: &Line, command: Command) -> Result<Progress, Memory>
+    fn command<D: Desk>(
+        &mut self,
+        desk: &mut D,
+        line: &Line,
+        command: Command,
+    ) -> Result<Progress, Memory>
         requires at { Walking (D.material desk.old) (D.via desk.old) self.old.place line.now (D.shown desk.old) stand.Fresh self.old.answer }
         requires begins { begins (D.via desk.old) line.now.deed ≡ first (act.Do command) }
         ensures then { IfOk result (λ r. Progressed (D.material desk.new) (D.via desk.new) self.new.place line.now (D.shown desk.new) self.new.stand self.new.answer r) }
@@ -217,7 +222,14 @@ impl Walk {
     }
 
     /// The packet is sealed under the packet id that was drawn, and counted as sent.
-    fn send<D: Desk>(&mut self, alloc: Global, desk: &mut D, line: &Line, hold: HoldView, id: u32) -> Result<(), Memory>
+    fn send<D: Desk>(
+        &mut self,
+        alloc: Global,
+        desk: &mut D,
+        line: &Line,
+        hold: HoldView,
+        id: u32,
+    ) -> Result<(), Memory>
         requires at { Walking (D.material desk.old) (D.via desk.old) self.old.place line.now (D.shown desk.old) (stand.Drew hold (drawn.Id id)) self.old.answer }
         requires fits { Fits line.now.deed }
         ensures then { OnOk result (Walking (D.material desk.new) (D.via desk.new) self.new.place line.now (D.shown desk.new) self.new.stand self.new.answer) }
@@ -271,20 +283,187 @@ impl Walk {
                 key: hold.key,
             },
         };
-        let killed = match desk.table(self.place, &call)? {
-            Reply::Killed => true,
-            Reply::AlreadyGone => false,
-            _ => unreachable!(),
-        };
+        let reply = desk.table(self.place, &call)?;
+        let killed = was_killed(&reply);
         self.stand = Stand::Used(hold, Use::Spent(killed));
         self.answer = Some(Answer::Dropped(DropCause::Spent));
         Ok(())
+    }
+
+    /// A datagram is opened. Where its tag verifies its packet id is judged, else the key is given back.
+    fn receive<D: Desk>(
+        &mut self,
+        alloc: Global,
+        desk: &mut D,
+        line: &Line,
+        hold: HoldView,
+    ) -> Result<(), Memory>
+        requires at { Walking (D.material desk.old) (D.via desk.old) self.old.place line.now (D.shown desk.old) (stand.Looked hold) self.old.answer }
+        requires rx { IsRx line.now.deed }
+        requires fits { Fits line.now.deed }
+        ensures then { OnOk result (Walking (D.material desk.new) (D.via desk.new) self.new.place line.now (D.shown desk.new) self.new.stand self.new.answer) }
+        ensures open { OnOk result (IsOpen self.new.stand (D.shown desk.new).owing) }
+        ensures made { OnOk result (Made (D.does desk.old) (next (D.via desk.old) (D.material desk.new) line.now (D.shown desk.old).events (D.shown desk.old).owing) (D.shown desk.old) (D.shown desk.new) desk.new) }
+        ensures err { OnErr result (D.shown desk.new ≡ D.shown desk.old) }
+        ensures kept { OnErr result (self.new ≡ self.old) }
+        ensures grows { Grows (D.material desk.old) (D.material desk.new) }
+        ensures via { D.via desk.new ≡ D.via desk.old }
+        ensures place { self.new.place ≡ self.old.place }
+    {
+        let Deed::Rx { datagram, .. } = &line.deed else {
+            unreachable!();
+        };
+        let pair = pair_of(desk, hold.key);
+        let packet = match open(alloc, &pair, datagram.as_slice())? {
+            Some(packet) => packet,
+            None => {
+                desk.give_back_key(hold.key);
+                self.stand = Stand::KeyGiven(hold, Use::BadTag);
+                self.answer = Some(Answer::Dropped(DropCause::BadTag));
+                return Ok(());
+            }
+        };
+        let id = packet_id(datagram.as_slice());
+        let verdict = desk.replay(self.place, hold.key, id, line.at)?;
+        match refusal_of(verdict) {
+            Some(cause) => {
+                self.stand = Stand::Used(hold, Use::Refused(verdict));
+                self.answer = Some(Answer::Dropped(cause));
+                Ok(())
+            }
+            None => {
+                self.stand = Stand::Judged(hold);
+                self.answer = Some(Answer::Delivered {
+                    peer: hold.id,
+                    packet,
+                });
+                Ok(())
+            }
+        }
+    }
+
+    /// A fresh packet is settled: what becomes of it is the answer.
+    fn settle<D: Desk>(&mut self, desk: &mut D, line: &Line, hold: HoldView) -> Result<(), Memory>
+        requires at { Walking (D.material desk.old) (D.via desk.old) self.old.place line.now (D.shown desk.old) (stand.Judged hold) self.old.answer }
+        requires fits { Fits line.now.deed }
+        ensures then { OnOk result (Walking (D.material desk.new) (D.via desk.new) self.new.place line.now (D.shown desk.new) self.new.stand self.new.answer) }
+        ensures open { OnOk result (IsOpen self.new.stand (D.shown desk.new).owing) }
+        ensures made { OnOk result (Made (D.does desk.old) (next (D.via desk.old) (D.material desk.new) line.now (D.shown desk.old).events (D.shown desk.old).owing) (D.shown desk.old) (D.shown desk.new) desk.new) }
+        ensures err { OnErr result (D.shown desk.new ≡ D.shown desk.old) }
+        ensures kept { OnErr result (self.new ≡ self.old) }
+        ensures grows { Grows (D.material desk.old) (D.material desk.new) }
+        ensures via { D.via desk.new ≡ D.via desk.old }
+        ensures place { self.new.place ≡ self.old.place }
+    {
+        let Deed::Rx { datagram, .. } = &line.deed else {
+            unreachable!();
+        };
+        let Some(Answer::Delivered { packet, .. }) = &self.answer else {
+            unreachable!();
+        };
+        let act = settle_of(desk, &hold, packet.as_slice(), datagram.as_slice());
+        let Reply::Settled(settled) = desk.table(self.place, &Call { at: line.at, act })? else {
+            unreachable!();
+        };
+        let Some(Answer::Delivered { packet, .. }) = self.answer.take() else {
+            unreachable!();
+        };
+        self.stand = Stand::Used(hold, Use::Settled(settled));
+        self.answer = Some(settled_as(settled, &hold, packet));
+        Ok(())
+    }
+
+    /// What is held is put to use: a counter is asked, or a datagram opened.
+    fn put_to_use<D: Desk>(
+        &mut self,
+        alloc: Global,
+        desk: &mut D,
+        line: &Line,
+        hold: HoldView,
+    ) -> Result<(), Memory>
+        requires at { Walking (D.material desk.old) (D.via desk.old) self.old.place line.now (D.shown desk.old) (stand.Looked hold) self.old.answer }
+        requires fits { Fits line.now.deed }
+        ensures then { OnOk result (Walking (D.material desk.new) (D.via desk.new) self.new.place line.now (D.shown desk.new) self.new.stand self.new.answer) }
+        ensures open { OnOk result (IsOpen self.new.stand (D.shown desk.new).owing) }
+        ensures made { OnOk result (Made (D.does desk.old) (next (D.via desk.old) (D.material desk.new) line.now (D.shown desk.old).events (D.shown desk.old).owing) (D.shown desk.old) (D.shown desk.new) desk.new) }
+        ensures err { OnErr result (D.shown desk.new ≡ D.shown desk.old) }
+        ensures kept { OnErr result (self.new ≡ self.old) }
+        ensures grows { Grows (D.material desk.old) (D.material desk.new) }
+        ensures via { D.via desk.new ≡ D.via desk.old }
+        ensures place { self.new.place ≡ self.old.place }
+    {
+        match &line.deed {
+            Deed::Netlink(_) => unreachable!(),
+            Deed::Tx(_) => {
+                self.draw(desk, line, hold);
+                Ok(())
+            }
+            Deed::Rx { .. } => self.receive(alloc, desk, line, hold),
+        }
+    }
+
+    /// Makes the line's next turn: the one event that comes next, or none where the line is answered without
+    /// one. What is owed is released first. `alloc` is where the datagram that is sealed, or the packet
+    /// that is opened, takes its room. At `Memory`, which is free, neither the walk nor what the desk
+    /// shows of it has changed.
+    pub fn turn<D: Desk>(
+        &mut self,
+        alloc: Global,
+        desk: &mut D,
+        line: &Line,
+    ) -> Result<Progress, Memory>
+        requires at { Walking (D.material desk.old) (D.via desk.old) self.old.place line.now (D.shown desk.old) self.old.stand self.old.answer }
+        requires open { IsOpen self.old.stand (D.shown desk.old).owing }
+        requires fits { Fits line.now.deed }
+        ensures then { IfOk result (λ r. Progressed (D.material desk.new) (D.via desk.new) self.new.place line.now (D.shown desk.new) self.new.stand self.new.answer r) }
+        ensures made { OnOk result (MadeOrNone (D.does desk.old) (next (D.via desk.old) (D.material desk.new) line.now (D.shown desk.old).events (D.shown desk.old).owing) (D.shown desk.old) (D.shown desk.new) desk.old desk.new) }
+        ensures err { OnErr result (D.shown desk.new ≡ D.shown desk.old) }
+        ensures kept { OnErr result (self.new ≡ self.old) }
+        ensures grows { Grows (D.material desk.old) (D.material desk.new) }
+        ensures via { D.via desk.new ≡ D.via desk.old }
+        ensures place { self.new.place ≡ self.old.place }
+    {
+        if let Some(owed) = desk.owed() {
+            self.release(desk, line, owed);
+            return Ok(self.finish(desk, line));
+        }
+        match self.stand {
+            Stand::Fresh => self.begin(desk, line),
+            Stand::Looked(hold) => {
+                self.put_to_use(alloc, desk, line, hold)?;
+                Ok(Progress::More)
+            }
+            Stand::Drew(hold, Drawn::Id(id)) => {
+                self.send(alloc, desk, line, hold, id)?;
+                Ok(Progress::More)
+            }
+            Stand::Drew(hold, Drawn::Spent) => {
+                self.spend(desk, line, hold)?;
+                Ok(Progress::More)
+            }
+            Stand::Judged(hold) => {
+                self.settle(desk, line, hold)?;
+                Ok(Progress::More)
+            }
+            Stand::Used(hold, made) => {
+                self.key_back(desk, line, hold, made);
+                Ok(Progress::More)
+            }
+            Stand::KeyGiven(hold, made) => {
+                self.peer_back(desk, line, hold, made);
+                Ok(self.finish(desk, line))
+            }
+            Stand::Replied => unreachable!(),
+            Stand::Missed => unreachable!(),
+            Stand::PeerGiven(_, _) => unreachable!(),
+        }
     }
 }
 
 /// The two directions of a key that is held.
 fn pair_of<D: Desk>(desk: &mut D, key: u32) -> KeyPair
     requires held { HoldsKey (D.shown desk.old).hold key }
+    requires unused { IsUnused (stand_of (D.shown desk.old).events) }
     ensures has { D.material desk.new key ≡ Some result }
     ensures same { D.shown desk.new ≡ D.shown desk.old }
     ensures quiet { (e : Event) (d : D) → D.does desk.new e d → D.does desk.old e d }
@@ -294,5 +473,43 @@ fn pair_of<D: Desk>(desk: &mut D, key: u32) -> KeyPair
     match desk.pair(key) {
         Some(pair) => pair,
         None => unreachable!(),
+    }
+}
+
+/// Why a packet id isn't taken, where it isn't.
+fn refusal_of(verdict: Verdict) -> Option<DropCause>
+    ensures { result ≡ refusal verdict }
+{
+    match verdict {
+        Verdict::Accept => None,
+        Verdict::Zero => Some(DropCause::Zero),
+        Verdict::Old => Some(DropCause::Old),
+        Verdict::Below => Some(DropCause::Below),
+        Verdict::Again => Some(DropCause::Again),
+    }
+}
+
+/// Whether a spent key was taken out of its slot.
+fn was_killed(reply: &Reply) -> bool
+    ensures { result ≡ is_killed reply.now }
+{
+    match reply {
+        Reply::Killed => true,
+        _ => false,
+    }
+}
+
+/// What becomes of a settled packet, as the answer of its line.
+fn settled_as(settled: Settled, hold: &HoldView, packet: Octets) -> Answer
+    ensures { result ≡ settled_answer settled hold.now packet }
+{
+    match settled {
+        Settled::Deliver => Answer::Delivered {
+            peer: hold.id,
+            packet,
+        },
+        Settled::Ping => Answer::Keepalive(hold.id),
+        Settled::NotIp => Answer::Dropped(DropCause::NotIp),
+        Settled::NotOwner => Answer::Dropped(DropCause::NotOwner),
     }
 }
