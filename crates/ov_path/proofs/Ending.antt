@@ -1,6 +1,6 @@
 -- A line that is over: its events and its answer have a path.
 use Rattle.std.proofs.Common.{ℕ, ◌≡◌, List, [], ◌∷◌, ◌++◌, refl, sym, ◌∙◌, ap, append-nil, subst, Bool, true, false}
-use Rattle.std.specs.Prelude.{Option, Some, None, map, unwrap_or, is_some}
+use Rattle.std.specs.Prelude.{Option, Some, None, unwrap_or, is_some}
 use Rattle.std.proofs.lemmas.List.{map-append}
 use Rattle.ov_base.specs.declared.address.Addr.{Addr}
 use Rattle.ov_model.specs.declared.place.Place.{Place}
@@ -25,10 +25,10 @@ use Rattle.ov_model.specs.declared.answer.Answer.{Answer}
 use Rattle.ov_model.specs.declared.answer.Answer.TheVariants as answer
 use Rattle.ov_model.specs.declared.answer.DropCause.{DropCause}
 use Rattle.ov_model.specs.Tables.{Material}
-use Rattle.ov_model.specs.Events.{Event, Stepped, GaveKey, GavePeer, Step, Judgement, DrawnId, step_of, release_of, releases, steps_in, judgements_in, draws_in}
+use Rattle.ov_model.specs.Events.{Event, GaveKey, GavePeer, release_of, releases, steps_in, judgements_in, draws_in}
 use Rattle.ov_model.specs.Keys.{sealed_ids}
-use Rattle.ov_model.specs.Path.{at_once, first, begins, IsLook, IsMiss, UseFits, use_steps, use_judgements, use_answer, settled_answer, owed_where, hold_owed, AtOnce, Commanded, Missed, Held as HeldRow, Path}
-use Rattle.ov_path.specs.Desks.{Holding, Shown, Called, NoHold, owed_if, first_owed, look_holds, stepped_as}
+use Rattle.ov_model.specs.Path.{at_once, first, begins, IsLook, IsMiss, UseFits, use_steps, use_judgements, use_answer, settled_answer, owed_where, hold_owed, AtOnce, Commanded, Missed, Held as HeldRow}
+use Rattle.ov_path.specs.Desks.{Holding, Shown, Called, owed_if, first_owed, look_holds}
 use Rattle.ov_path.specs.Walks.{released, use_events, AtReplied, AtPeerGiven, Walking, Over, IsOpen, Progressed, AnswerIs}
 use Rattle.ov_path.specs.declared.walk.Progress.{Progress}
 use Rattle.ov_path.specs.declared.walk.Progress.TheVariants.{More, Answered}

@@ -1,13 +1,12 @@
 -- A line that runs goes on: each event leads from one stand to the next.
-use Rattle.std.proofs.Common.{ℕ, ◌≡◌, ◌≢◌, ◌≤◌, length, List, [], ◌∷◌, ◌++◌, refl, sym, ◌∙◌, ap, subst, append_assoc, append-nil, true, false, Bool}
-use Rattle.std.specs.Prelude.{Option, Some, None, map, unwrap_or, IsSome}
+use Rattle.std.proofs.Common.{ℕ, ◌≡◌, ◌≢◌, ◌≤◌, length, List, [], ◌∷◌, ◌++◌, refl, sym, ◌∙◌, ap, subst, append_assoc, append-nil}
+use Rattle.std.specs.Prelude.{Option, Some, None, unwrap_or}
 use Rattle.ov_base.specs.declared.address.Addr.{Addr}
 use Rattle.ov_base.specs.declared.address.Transport.{Transport}
 use Rattle.ov_model.specs.declared.ident.PeerId.{PeerId}
 use Rattle.ov_model.specs.declared.place.Place.{Place}
 use Rattle.ov_model.specs.declared.act.Act.{Act}
 use Rattle.ov_model.specs.declared.act.Act.TheVariants as act
-use Rattle.ov_model.specs.declared.act.Call.{Call}
 use Rattle.ov_model.specs.declared.command.Command.{Command}
 use Rattle.ov_model.specs.declared.draw.Drawn.{Drawn}
 use Rattle.ov_model.specs.declared.draw.Drawn.TheVariants as drawn
@@ -33,14 +32,14 @@ use Rattle.ov_model.specs.declared.answer.DropCause.{DropCause}
 use Rattle.ov_model.specs.declared.answer.DropCause.TheVariants as drop
 use Rattle.ov_model.specs.Tables.{Material}
 use Rattle.ov_model.specs.Packets.{opened, packet_id_of}
-use Rattle.ov_model.specs.Events.{Event, Stepped, Judged, Drew, GaveKey, GavePeer, step_of, release_of, releases}
-use Rattle.ov_model.specs.Path.{first, begins, IsLook, UseFits, use_answer, sent_act, settle_act, packet_in, sealed_datagram, cause_of, settled_answer, spent_reply, spent_taken}
+use Rattle.ov_model.specs.Events.{Event, Stepped, Judged, Drew, GaveKey, GavePeer, release_of}
+use Rattle.ov_model.specs.Path.{first, begins, IsLook, sent_act, settle_act, packet_in, sealed_datagram, cause_of, settled_answer, spent_reply}
 use Rattle.ov_model.specs.Next as next
 use Rattle.ov_model.specs.Next.{Ask, Table, see, see_all, stand_of, is_killed, began, looked}
-use Rattle.ov_path.specs.Desks.{Holding, NoHold, Both, PeerLeft, Shown, Called, Joins, HasMaterial, HoldHas, IsReplyOf, IsLookReply, IsSpendReply, IsFree, MayCall, look_holds, Grows, with_event, held_after, peer_left, owed_if, first_owed, after_first, stepped_as}
+use Rattle.ov_path.specs.Desks.{Holding, NoHold, Shown, Called, Joins, HasMaterial, HoldHas, IsReplyOf, IsLookReply, IsSpendReply, IsFree, MayCall, look_holds, Grows, with_event, held_after, peer_left, owed_if, first_owed, after_first, stepped_as}
 use Rattle.ov_path.specs.Parts.{refusal}
 use Rattle.ov_path.proofs.Beginning.{can_hold}
-use Rattle.ov_path.specs.Walks.{released, judged_as, use_events, Opens, Held, IsTx, AtReplied, AtKeyGiven, AtPeerGiven, Trail, Walking, Made, holding_of}
+use Rattle.ov_path.specs.Walks.{released, judged_as, Opens, Held, IsTx, AtKeyGiven, Trail, Walking, Made}
 
 -- ---- events
 

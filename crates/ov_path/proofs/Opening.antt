@@ -1,6 +1,6 @@
 -- A tag that verifies opens its datagram.
-use Rattle.std.specs.Prelude.{ℕ, ◌≡◌, List, Option, Some, None}
-use Rattle.std.proofs.Common.{ap, sym}
+use Rattle.std.specs.Prelude.{ℕ, ◌≡◌, List, Some}
+use Rattle.std.proofs.Common.{ap}
 use Rattle.std.proofs.lemmas.Slice.Eq.{bytes_eq-Decides}
 use Rattle.ov_aes.specs.Aes.{key_list}
 use Rattle.ov_gcm.specs.Gcm.{Opens, plain}

@@ -6,7 +6,7 @@ use Rattle.ov_model.specs.declared.line.Deed.TheVariants as deed
 use Rattle.ov_model.specs.declared.replay.Verdict.{Verdict}
 use Rattle.ov_model.specs.declared.replay.Verdict.TheVariants as verdict
 use Rattle.ov_model.specs.declared.answer.DropCause.{DropCause}
-use Rattle.ov_model.specs.Packets.{HeadKind, short, data_v1, control, data_v2}
+use Rattle.ov_model.specs.Packets.{HeadKind, data_v2}
 use Rattle.ov_model.specs.Path.{Begin, at_once, first, IsLook, cause_of}
 use Rattle.ov_path.specs.declared.begun.Begun.{Begun}
 use Rattle.ov_path.specs.declared.begun.Begun.TheVariants as begun

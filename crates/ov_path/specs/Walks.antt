@@ -26,7 +26,7 @@ use Rattle.ov_model.specs.declared.answer.Answer.{Answer}
 use Rattle.ov_model.specs.declared.answer.Answer.TheVariants as answer
 use Rattle.ov_model.specs.Tables.{Material}
 use Rattle.ov_model.specs.Packets.{opened, packet_id_of}
-use Rattle.ov_model.specs.Events.{Event, Stepped, Judged, Drew, GaveKey, GavePeer, Judgement, steps_in, judgements_in, draws_in, step_of, releases}
+use Rattle.ov_model.specs.Events.{Event, Stepped, Judged, Drew, GaveKey, GavePeer, steps_in, judgements_in, draws_in, step_of, releases}
 use Rattle.ov_model.specs.Keys.{sealed_ids}
 use Rattle.ov_model.specs.Path.{first, begins, SomeOwed, removed, UseFits, spent_reply, spent_taken, sent_act, settle_act, use_answer, packet_in, Path}
 use Rattle.ov_model.specs.Next.{Ask, Nil, stand_of, request}

@@ -6,6 +6,8 @@ mod calls;
 mod desk;
 mod open;
 mod seal;
+#[cfg(test)]
+mod tests;
 mod walk;
 
 pub use desk::Desk;

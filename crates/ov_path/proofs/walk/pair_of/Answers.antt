@@ -1,5 +1,5 @@
-use Rattle.std.proofs.Common.{rules, refl, Some, None, Bool, true, false, ◌≡◌}
-use Rattle.std.specs.Prelude.{is_some, IsSome}
+use Rattle.std.proofs.Common.{refl, true, false, ◌≡◌}
+use Rattle.std.specs.Prelude.{is_some}
 use Rattle.ov_path.proofs.walk.pair_of.Goals as goal
 
 pub unreachable-requires : goal.unreachable-requires

@@ -1,4 +1,4 @@
-use Rattle.std.proofs.Common.{rules, refl, sym, ◌∙◌}
+use Rattle.std.proofs.Common.{rules, sym, ◌∙◌}
 use Rattle.ov_path.proofs.Going.{walk_at, bad_tag_step, refused_step, judged_by}
 use Rattle.ov_path.proofs.walk.Walk.receive.Goals as goal
 

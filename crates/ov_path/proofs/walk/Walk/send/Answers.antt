@@ -1,4 +1,4 @@
-use Rattle.std.proofs.Common.{rules, refl, sym, ◌∙◌}
+use Rattle.std.proofs.Common.{◌∙◌}
 use Rattle.ov_path.proofs.Going.{sent_by}
 use Rattle.ov_path.proofs.walk.Walk.send.Goals as goal
 

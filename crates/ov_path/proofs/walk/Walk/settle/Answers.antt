@@ -1,8 +1,7 @@
-use Rattle.std.proofs.Common.{rules, ◌≡◌, Some, Option, refl, sym, ◌∙◌, ap, ℕ, List}
+use Rattle.std.proofs.Common.{rules, ◌≡◌, Some, Option, sym, ◌∙◌, ap}
 use Rattle.ov_model.specs.declared.answer.Answer.{Answer}
 use Rattle.ov_model.specs.declared.answer.Answer.TheVariants as answer
 use Rattle.ov_model.specs.Next.{Table}
-use Rattle.ov_model.specs.Path.{settle_act}
 use Rattle.ov_path.proofs.Going.{waiting, settled_by, settle_act_at, table_made, settle_asked}
 use Rattle.ov_path.proofs.walk.Walk.settle.Goals as goal
 
