@@ -1,6 +1,14 @@
 //! The steps of one line, over any desk.
 #![tactic(auto)]
 
+mod begun;
+mod calls;
 mod desk;
+mod open;
+mod seal;
+#[cfg(test)]
+mod tests;
+mod walk;
 
 pub use desk::Desk;
+pub use walk::{Progress, Walk};

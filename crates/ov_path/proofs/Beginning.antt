@@ -1,0 +1,90 @@
+-- How a line begins: by its head, and never with what was sealed.
+use Rattle.std.proofs.Common.{ℕ, ◌≡◌, List, [], refl, sym, ap, subst}
+use Rattle.std.specs.Prelude.{Option, Some, None, Result, Ok, Err}
+use Rattle.ov_base.specs.declared.address.Addr.{Addr}
+use Rattle.ov_base.specs.declared.address.Transport.{Transport}
+use Rattle.ov_model.specs.declared.act.Act.{Act}
+use Rattle.ov_model.specs.declared.act.Act.TheVariants as act
+use Rattle.ov_model.specs.declared.command.Command.{Command}
+use Rattle.ov_model.specs.declared.ident.PeerId.{PeerId}
+use Rattle.ov_model.specs.declared.ident.KeyId.{KeyId}
+use Rattle.ov_model.specs.declared.line.Deed.{Deed}
+use Rattle.ov_model.specs.declared.line.Deed.TheVariants as deed
+use Rattle.ov_model.specs.declared.reply.Errno.{Errno}
+use Rattle.ov_model.specs.declared.answer.Answer.{Answer}
+use Rattle.ov_model.specs.Ident.{peer_id, key_id}
+use Rattle.ov_model.specs.Checked.{checked}
+use Rattle.ov_model.specs.Events.{DrawnId}
+use Rattle.ov_model.specs.Keys.{sealed_ids}
+use Rattle.ov_model.specs.Packets.{HeadKind, short, data_v1, control, data_v2, head_of, Inner, v4, v6, not_ip, inner_of}
+use Rattle.ov_model.specs.Path.{Begin, at_once, first, begins, begins_netlink, begins_tx, begins_rx, rx_look_by, IsLook}
+use Rattle.ov_model.proofs.PeerIds.{peer_id_of, key_id_of}
+use Rattle.ov_packet.specs.declared.head.Head.{Head}
+use Rattle.ov_path.specs.Parts.{IsData, CanHold}
+
+look_by : (from : Transport) (id : PeerId) (key : KeyId) (a : Option PeerId) (b : Option KeyId) → Some id ≡ a → Some key ≡ b → first (act.RxLook id key from) ≡ rx_look_by a b from
+look_by from id key a b e f = rw (← e) (rw (← f) refl)
+
+-- A head that was read looks up its peer and key.
+pub begins_data : (from : Transport) (head : Head) (k : HeadKind) → data_v2 head.id.number head.key_id.number head.packet_id ≡ k → first (act.RxLook head.id head.key_id from) ≡ begins_rx from k
+begins_data from head k e = rw (← e) (look_by from head.id head.key_id (peer_id head.id.number) (key_id head.key_id.number) (peer_id_of head.id.number head.id.in_range) (key_id_of head.key_id.number head.key_id.in_range))
+
+-- A datagram that is looked up is a data packet.
+data_begins : (from : Transport) (a : Act) (k : HeadKind) → begins_rx from k ≡ first a → IsData k
+data_begins from a short e = absurd (let same : at_once _ ≡ first a = e in cc)
+data_begins from a data_v1 e = absurd (let same : at_once _ ≡ first a = e in cc)
+data_begins from a control e = absurd (let same : at_once _ ≡ first a = e in cc)
+data_begins from a (data_v2 id key n) e = tt
+
+pub is_data : (via : Addr → Addr) (from : Transport) (bytes : List ℕ) (a : Act) (d : Deed) → d ≡ deed.Rx from bytes → begins via d ≡ first a → IsData (head_of bytes)
+is_data via from bytes a d is e = let P : Deed → Type 0 = λ x. begins via x ≡ first a in data_begins from a (head_of bytes) (subst P is e)
+
+-- What is answered at once was not sealed.
+abbrev unsealed_ids : Begin → List DrawnId
+unsealed_ids (at_once a) = sealed_ids a
+unsealed_ids (first a) = []
+
+unsealed_netlink : (r : Result Command Errno) → unsealed_ids (begins_netlink r) ≡ []
+unsealed_netlink (Ok c) = refl
+unsealed_netlink (Err e) = refl
+
+unsealed_tx : (via : Addr → Addr) (i : Inner) → unsealed_ids (begins_tx via i) ≡ []
+unsealed_tx via (v4 source destination) = refl
+unsealed_tx via (v6 source destination) = refl
+unsealed_tx via not_ip = refl
+
+unsealed_look : (id : Option PeerId) (key : Option KeyId) (from : Transport) → unsealed_ids (rx_look_by id key from) ≡ []
+unsealed_look (Some id) (Some key) from = refl
+unsealed_look (Some id) None from = refl
+unsealed_look None key from = refl
+
+unsealed_rx : (from : Transport) (k : HeadKind) → unsealed_ids (begins_rx from k) ≡ []
+unsealed_rx from short = refl
+unsealed_rx from data_v1 = refl
+unsealed_rx from control = refl
+unsealed_rx from (data_v2 id key n) = unsealed_look (peer_id id) (key_id key) from
+
+unsealed : (via : Addr → Addr) (d : Deed) → unsealed_ids (begins via d) ≡ []
+unsealed via (deed.Netlink m) = unsealed_netlink (checked m)
+unsealed via (deed.Tx packet) = unsealed_tx via (inner_of packet)
+unsealed via (deed.Rx from bytes) = unsealed_rx from (head_of bytes)
+
+pub at_once_unsealed : (via : Addr → Addr) (d : Deed) (a : Answer) → begins via d ≡ at_once a → sealed_ids a ≡ []
+at_once_unsealed via d a e = let same : unsealed_ids (begins via d) ≡ sealed_ids a = ap unsealed_ids e in rw (← same) (unsealed via d)
+
+-- A line that begins with a look-up can hold.
+abbrev looks_first : Begin → Type 0
+looks_first (at_once a) = ⊥
+looks_first (first a) = IsLook a
+
+not_netlink : (r : Result Command Errno) → looks_first (begins_netlink r) → ⊥
+not_netlink (Ok c) looks = looks
+not_netlink (Err e) looks = looks
+
+holds_by : (via : Addr → Addr) (d : Deed) → looks_first (begins via d) → CanHold d
+holds_by via (deed.Netlink m) looks = absurd (not_netlink (checked m) looks)
+holds_by via (deed.Tx packet) looks = tt
+holds_by via (deed.Rx from bytes) looks = tt
+
+pub can_hold : (via : Addr → Addr) (d : Deed) (a : Act) → begins via d ≡ first a → IsLook a → CanHold d
+can_hold via d a begins_so looks = holds_by via d (let P : Begin → Type 0 = λ b. looks_first b in subst P (sym begins_so) looks)

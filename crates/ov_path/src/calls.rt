@@ -1,0 +1,57 @@
+// What the peer table is told of a packet that was sealed, and of one that was opened and is fresh.
+
+ghost use Rattle.std.specs.Prelude.{◌≡◌, ◌≤◌, length};
+ghost use Rattle.ov_model.specs.Packets.{kind_of};
+ghost use Rattle.ov_model.specs.Path.{kind_via, sent_act, settle_act};
+
+use crate::desk::Desk;
+use ov_base::Addr;
+use ov_model::{Act, HoldView, InnerKind};
+use ov_packet::{InnerFacts, inner, is_keepalive};
+
+/// The bytes that a datagram has more than its inner packet: head and tag.
+const FRONT_BYTES: u32 = 24;
+
+/// The step that counts a packet as sent by a held peer.
+pub fn sent_of(hold: &HoldView, packet: &[u8]) -> Act
+    requires packet { length packet.now ≤ 65536 }
+    ensures { result ≡ sent_act hold.now packet.now }
+{
+    let inner = packet.len() as u32;
+    Act::Sent {
+        peer: hold.peer,
+        inner,
+        outer: inner + FRONT_BYTES,
+        ping: false,
+    }
+}
+
+/// The step that settles a packet for a held peer: what kind it is, with the next hop of its source, and
+/// the lengths of packet and datagram.
+pub fn settle_of<D: Desk>(desk: &D, hold: &HoldView, packet: &[u8], datagram: &[u8]) -> Act
+    requires packet { length packet.now ≤ 65536 }
+    requires datagram { length datagram.now ≤ 65536 }
+    ensures { result ≡ settle_act (D.via desk.now) hold.now packet.now datagram.now }
+{
+    Act::Settle {
+        peer: hold.peer,
+        from: None,
+        kind: kind_at(desk, packet),
+        inner: packet.len() as u32,
+        outer: datagram.len() as u32,
+    }
+}
+
+/// What kind a packet is to the table.
+fn kind_at<D: Desk>(desk: &D, packet: &[u8]) -> InnerKind
+    ensures { result ≡ kind_via (D.via desk.now) (kind_of packet.now) }
+{
+    if is_keepalive(packet) {
+        return InnerKind::Ping;
+    }
+    match inner(packet) {
+        InnerFacts::V4 { source, .. } => InnerKind::From(desk.via(Addr::V4(source))),
+        InnerFacts::V6 { source, .. } => InnerKind::From(desk.via(Addr::V6(source))),
+        InnerFacts::NotIp => InnerKind::NotIp,
+    }
+}

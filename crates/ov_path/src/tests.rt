@@ -1,0 +1,101 @@
+use crate::open::open;
+use crate::seal::seal;
+use ov_base::{Addr, Memory, Octets, Transport};
+use ov_keys::KeyPair;
+use ov_model::{HoldView, KeyBytes, KeyConf, KeyDir, KeyId, PeerId, Slot};
+use ov_packet::read_head;
+use std::alloc::Global;
+use std::test::Fail;
+
+/// An inner packet: an IPv4 header of 20 bytes from 10.8.0.5 to itself.
+const PACKET: [u8; 20] = [
+    0x45, 0, 0, 0x14, 0, 0, 0, 0, 0x40, 0x11, 0, 0, 10, 8, 0, 5, 10, 8, 0, 5,
+];
+
+/// Its datagram for peer id 5, key id 2, packet id 1, under the key 00..0f and the tail 00..07. The tag
+/// and the ciphertext are those of Python's `cryptography` 48.0.0, `AESGCM(bytes(range(16))).encrypt`
+/// with the nonce 00000001 0001020304050607 and the head 4a000005 00000001 as associated data; it puts
+/// the tag last.
+const DATAGRAM: [u8; 44] = [
+    0x4a, 0x00, 0x00, 0x05, 0x00, 0x00, 0x00, 0x01, 0x60, 0x51, 0x0e, 0x1c, 0x04, 0xad, 0x71, 0x9a,
+    0x85, 0x1c, 0x1b, 0xc1, 0x6f, 0x2d, 0x39, 0xab, 0xdf, 0x16, 0xc4, 0xd5, 0x9b, 0xf4, 0x32, 0x44,
+    0x69, 0x21, 0x4f, 0x1f, 0x67, 0x46, 0x36, 0x28, 0x3b, 0xf6, 0x48, 0x96,
+];
+
+/// The key 00..0f with the tail 00..07, in both directions, and a hold on it.
+fn held() -> Option<(HoldView, KeyPair)> {
+    let peer = PeerId::new(5)?;
+    let key_id = KeyId::new(2)?;
+    let dir = KeyDir {
+        key: KeyBytes::K16([0, 1, 2, 3, 4, 5, 6, 7, 8, 9, 10, 11, 12, 13, 14, 15]),
+        tail: [0, 1, 2, 3, 4, 5, 6, 7],
+    };
+    let conf = KeyConf {
+        peer,
+        slot: Slot::Primary,
+        key_id,
+        encrypt: dir,
+        decrypt: dir,
+    };
+    let hold = HoldView {
+        peer: 0,
+        id: peer,
+        key: 0,
+        key_id,
+        to: Transport {
+            addr: Addr::V4([192, 0, 2, 1]),
+            port: 1194,
+        },
+    };
+    Some((hold, KeyPair::of(&conf)))
+}
+
+/// Opens a datagram where its head is that of a data packet.
+fn opened(alloc: Global, pair: &KeyPair, datagram: &[u8; 44]) -> Result<Option<Octets>, Memory> {
+    match read_head(datagram) {
+        Ok(_) => open(alloc, pair, datagram),
+        Err(_) => Ok(None),
+    }
+}
+
+#[test]
+fn a_packet_is_sealed_as_another_implementation_seals_it(rt: HostRuntime) -> Result<(), Fail> {
+    let held = held();
+    assert!(rt; held.is_some());
+    if let Some((hold, pair)) = held {
+        let Ok(datagram) = seal(rt.alloc(), &hold, &pair, 1, &PACKET) else {
+            panic!(rt; "no memory");
+        };
+        assert_eq!(rt; datagram.as_slice(), &DATAGRAM[..]);
+    }
+    Ok(())
+}
+
+#[test]
+fn a_datagram_opens_as_its_packet(rt: HostRuntime) -> Result<(), Fail> {
+    let held = held();
+    assert!(rt; held.is_some());
+    if let Some((_, pair)) = held {
+        let Ok(Some(packet)) = opened(rt.alloc(), &pair, &DATAGRAM) else {
+            panic!(rt; "not opened");
+        };
+        assert_eq!(rt; packet.as_slice(), &PACKET[..]);
+    }
+    Ok(())
+}
+
+#[test]
+fn a_datagram_with_one_bit_changed_does_not_open(rt: HostRuntime) -> Result<(), Fail> {
+    let held = held();
+    assert!(rt; held.is_some());
+    if let Some((_, pair)) = held {
+        for place in [1, 7, 8, 23, 24, 43] {
+            let mut wrong = DATAGRAM;
+            wrong[place] ^= 1;
+            let Ok(None) = opened(rt.alloc(), &pair, &wrong) else {
+                panic!(rt; "opened with byte {place} changed");
+            };
+        }
+    }
+    Ok(())
+}
