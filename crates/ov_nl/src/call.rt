@@ -3,6 +3,7 @@
 ghost use Rattle.std.specs.Prelude.{◌≡◌, false, Some};
 ghost use Rattle.ov_model.specs.Checked as spec;
 
+use crate::keys::key_command;
 use ov_base::{Addr, Transport};
 use ov_model::{Attrs, Command, Errno, Keepalive, NlMessage, NlOp, NlPeer, PeerId, Reason};
 
@@ -113,23 +114,38 @@ fn command_of(op: NlOp, peer: &NlPeer, id: PeerId) -> Result<Command, Errno>
         }
         NlOp::PeerGet => Ok(Command::PeerGet(id)),
         NlOp::PeerDel => Ok(Command::Remove(id, Reason::Userspace)),
+        NlOp::KeyNew => Err(Errno::Invalid),
     }
 }
 
-/// The command of a message, or `Errno::Invalid`: exactly where the peer or its id is missing, the
-/// id is above 16777215, or an attribute of peer-new is out of range or stands without another that
-/// it needs. A message that is refused makes no step of the peer table.
-#[tactic(auto, unfolding(ov_model::specs::Checked::checked))]
-pub fn call_of(message: &NlMessage) -> Result<Command, Errno>
-    ensures { result ≡ spec.checked message.now }
+/// The command of an operation on peers.
+fn peer_command(op: NlOp, peer: &Option<NlPeer>) -> Result<Command, Errno>
+    ensures { result ≡ spec.checked_with op peer.now }
 {
-    let Some(peer) = &message.peer else {
+    let Some(peer) = peer else {
         return Err(Errno::Invalid);
     };
     let Some(id) = peer.id.and_then(PeerId::new) else {
         return Err(Errno::Invalid);
     };
-    command_of(message.op, peer, id)
+    command_of(op, peer, id)
+}
+
+/// The command of a message. `Errno::Invalid` comes exactly where, of an operation on peers, the peer or
+/// its id is missing, the id is above 16777215, or an attribute of peer-new is out of range or stands
+/// without another that it needs; and, of key-new, an attribute is missing or out of its range.
+/// `Errno::NotSupported` comes exactly where key-new is right but for its cipher. A message that is
+/// refused makes no step of the peer table.
+#[tactic(auto, unfolding(ov_model::specs::Checked::checked))]
+pub fn call_of(message: &NlMessage) -> Result<Command, Errno>
+    ensures { result ≡ spec.checked message.now }
+{
+    match message.op {
+        NlOp::PeerNew => peer_command(NlOp::PeerNew, &message.peer),
+        NlOp::PeerGet => peer_command(NlOp::PeerGet, &message.peer),
+        NlOp::PeerDel => peer_command(NlOp::PeerDel, &message.peer),
+        NlOp::KeyNew => key_command(&message.keyconf),
+    }
 }
 
 #[cfg(test)]
@@ -153,6 +169,7 @@ mod tests {
             op: NlOp::PeerNew,
             ifindex: None,
             peer: Some(peer),
+            keyconf: None,
         };
         let Ok(Command::PeerNew(attrs)) = call_of(&message) else {
             panic!(rt; "refused");
@@ -170,6 +187,7 @@ mod tests {
                 op: NlOp::PeerGet,
                 ifindex: None,
                 peer,
+                keyconf: None,
             };
             assert_eq!(rt; call_of(&message), Err(Errno::Invalid));
         }

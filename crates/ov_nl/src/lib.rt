@@ -2,5 +2,6 @@
 #![tactic(auto)]
 
 pub mod call;
+pub mod keys;
 
 pub use call::call_of;
