@@ -1,5 +1,5 @@
 -- The test whether keys differ tells exactly whether they do.
-use Rattle.std.proofs.Common.{◌≡◌, Bool, true, false, ◌&&◌, ◌||◌, List, [], ◌∷◌, refl, sym, ◌∙◌, ap, true≢false}
+use Rattle.std.proofs.Common.{◌≡◌, Bool, true, false, ◌&&◌, ◌||◌, List, [], ◌∷◌, refl, sym, true≢false}
 use Rattle.std.specs.Prelude.{not, ◌↔◌}
 use Rattle.std.specs.List.{IsDistinct, AllByRecursion, list_any}
 use Rattle.ov_model.specs.declared.command.KeyDir.{KeyDir}

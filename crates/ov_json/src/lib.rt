@@ -7,9 +7,13 @@ pub mod keyconf;
 pub mod line;
 pub mod member;
 pub mod members;
+#[cfg(test)]
+mod packet_tests;
 pub mod packets;
 pub mod pieces;
 pub mod print;
+#[cfg(test)]
+mod print_tests;
 #[cfg(test)]
 mod reading_tests;
 pub mod script;
