@@ -4,3 +4,4 @@ pub mod Judging
 pub mod Lines
 pub mod Names
 pub mod Options
+pub mod Differ

@@ -18,7 +18,9 @@ use Rattle.ov_model.specs.declared.answer.Answer.TheVariants as answer
 use Rattle.ov_model.specs.declared.note.Note.{Note}
 use Rattle.ov_model.specs.declared.note.NoteBody.{NoteBody}
 use Rattle.ov_model.specs.declared.note.NoteBody.TheVariants as body
-use Rattle.ov_json.specs.Print.{num, put_num, put_text, call_name, put_remote_addr, put_vpn4, put_vpn6, put_counts, view_members, reply_data, answer_data, entry_data, answered_data, note_members, note_data}
+use Rattle.ov_model.specs.declared.answer.SealedOut.{SealedOut}
+use Rattle.ov_model.specs.declared.replay.ReplayEntry.{ReplayEntry}
+use Rattle.ov_json.specs.Print.{num, put_num, put_text, call_name, put_remote_addr, put_vpn4, put_vpn6, put_counts, view_members, reply_data, sealed_members, answer_data, entry_data, answered_data, note_members, note_data, replay_data}
 
 or_left : (a b : Bool) → (a || b) ≡ false → a ≡ false
 or_left true b h = h
@@ -85,13 +87,30 @@ view_no_float v =
 
 pub reply_no_float : (r : Reply) → has_float (reply_data r) ≡ false
 reply_no_float (reply.Made n) = refl
+reply_no_float reply.Done = refl
 reply_no_float (reply.Peer v) = rw (view_no_float v) refl
 reply_no_float (reply.Removed ns) = rw (nums_no_float ns) refl
+reply_no_float (reply.Hold h) = refl
+reply_no_float reply.NoPeer = refl
+reply_no_float reply.NoKey = refl
+reply_no_float (reply.Settled s) = refl
+reply_no_float reply.Killed = refl
+reply_no_float reply.AlreadyGone = refl
 reply_no_float (reply.Released n) = refl
+reply_no_float (reply.KeyReleased n) = refl
 reply_no_float (reply.Refused e) = refl
+
+sealed_no_float : (s : SealedOut) → members_have_float (sealed_members s) ≡ false
+unfolding sealed_members
+sealed_no_float s = refl
 
 pub answer_no_float : (a : Answer) → has_float (answer_data a) ≡ false
 answer_no_float (answer.Reply r) = reply_no_float r
+answer_no_float (answer.Sealed s) = rw (sealed_no_float s) refl
+answer_no_float (answer.Delivered peer packet) = refl
+answer_no_float (answer.Keepalive id) = refl
+answer_no_float answer.Control = refl
+answer_no_float (answer.Dropped c) = refl
 
 pub entry_no_float : (n : ℕ) (e : Entry) → has_float (entry_data n e) ≡ false
 unfolding entry_data
@@ -115,3 +134,7 @@ body_no_float (body.KeySwap id key_id) = refl
 pub note_no_float : (n : Note) → has_float (note_data n) ≡ false
 unfolding note_data
 note_no_float n = put_no_float (codes "journal") (num n.entry) (note_members n.body) refl (body_no_float n.body)
+
+pub replay_no_float : (shard : ℕ) (r : ReplayEntry) → has_float (replay_data shard r) ≡ false
+unfolding replay_data
+replay_no_float shard r = refl

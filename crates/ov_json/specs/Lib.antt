@@ -1,5 +1,6 @@
 pub mod Print
 pub mod Summary
 pub mod Values
+pub mod Keyconf
 pub mod Grammar
 pub mod Reading

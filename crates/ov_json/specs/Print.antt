@@ -1,9 +1,9 @@
 -- The lines of a report: each a compact JSON object (RFC 8259) whose names stand in ascending byte
 -- order at each level, followed by a line end. `put` sets a name, and keeps the order.
-use Rattle.std.specs.Prelude.{ℕ, List, [], ◌∷◌, ◌++◌, Option, Some, None, map, codes}
+use Rattle.std.specs.Prelude.{ℕ, List, [], ◌∷◌, ◌++◌, true, Option, Some, None, map, codes}
 use Rattle.std.specs.Net.Text.{ipv4_text}
 use Rattle.hex.specs.Hex.{encode_lower}
-use Rattle.serde_json.specs.Data.{Data, string, number, unsigned, array, object, Members, no_members, put}
+use Rattle.serde_json.specs.Data.{Data, boolean, string, number, unsigned, array, object, Members, no_members, put}
 use Rattle.serde_json.specs.View.{items_of}
 use Rattle.serde_json.specs.Written.{compact_text}
 use Rattle.ov_base.specs.declared.address.Addr.{Addr}
@@ -12,17 +12,27 @@ use Rattle.ov_base.specs.declared.address.Transport.{Transport}
 use Rattle.ov_model.specs.declared.act.Act.{Act}
 use Rattle.ov_model.specs.declared.act.Act.TheVariants as act
 use Rattle.ov_model.specs.declared.command.Command.TheVariants as command
+use Rattle.ov_model.specs.declared.ident.PeerId.{PeerId}
 use Rattle.ov_model.specs.declared.command.Reason.{Reason}
 use Rattle.ov_model.specs.declared.command.Reason.TheVariants as reason
 use Rattle.ov_model.specs.declared.entry.Entry.{Entry}
 use Rattle.ov_model.specs.declared.reply.Errno.{Errno}
-use Rattle.ov_model.specs.declared.reply.Errno.TheVariants.{NoEntry, Exists, Invalid, NoSpace}
+use Rattle.ov_model.specs.declared.reply.Errno.TheVariants.{NoEntry, Exists, Invalid, NoSpace, NotSupported}
 use Rattle.ov_model.specs.declared.reply.Counts.{Counts}
 use Rattle.ov_model.specs.declared.reply.PeerView.{PeerView}
+use Rattle.ov_model.specs.declared.reply.HoldView.{HoldView}
+use Rattle.ov_model.specs.declared.reply.Settled.{Settled}
+use Rattle.ov_model.specs.declared.reply.Settled.TheVariants as settled
 use Rattle.ov_model.specs.declared.reply.Reply.{Reply}
 use Rattle.ov_model.specs.declared.reply.Reply.TheVariants as reply
+use Rattle.ov_model.specs.declared.answer.DropCause.{DropCause}
+use Rattle.ov_model.specs.declared.answer.DropCause.TheVariants as cause
+use Rattle.ov_model.specs.declared.answer.SealedOut.{SealedOut}
 use Rattle.ov_model.specs.declared.answer.Answer.{Answer}
 use Rattle.ov_model.specs.declared.answer.Answer.TheVariants as answer
+use Rattle.ov_model.specs.declared.replay.Verdict.{Verdict}
+use Rattle.ov_model.specs.declared.replay.Verdict.TheVariants as verdict
+use Rattle.ov_model.specs.declared.replay.ReplayEntry.{ReplayEntry}
 use Rattle.ov_model.specs.declared.note.Note.{Note}
 use Rattle.ov_model.specs.declared.note.NoteBody.{NoteBody}
 use Rattle.ov_model.specs.declared.note.NoteBody.TheVariants as body
@@ -53,14 +63,22 @@ abbrev pub call_name : Act → List ℕ
 call_name (act.Do (command.PeerNew a)) = codes "peer-new"
 call_name (act.Do (command.PeerGet id)) = codes "peer-get"
 call_name (act.Do (command.Remove id r)) = codes "remove"
+call_name (act.Do (command.KeyNew c)) = codes "key-new"
+call_name (act.TxLook addr) = codes "tx-look"
+call_name (act.RxLook id key_id from) = codes "rx-look"
+call_name (act.Sent peer inner outer ping) = codes "sent"
+call_name (act.Settle peer from kind inner outer) = codes "settle"
+call_name (act.Spend peer key) = codes "spend"
 call_name (act.Released serial) = codes "released"
+call_name (act.KeyReleased serial) = codes "key-released"
 
--- Linux's numbers: ENOENT, EEXIST, EINVAL, ENOSPC.
+-- Linux's numbers: ENOENT, EEXIST, EINVAL, ENOSPC, EOPNOTSUPP.
 abbrev pub errno_number : Errno → ℕ
 errno_number NoEntry = 2
 errno_number Exists = 17
 errno_number Invalid = 22
 errno_number NoSpace = 28
+errno_number NotSupported = 95
 
 abbrev pub reason_name : Reason → List ℕ
 reason_name reason.Teardown = codes "teardown"
@@ -107,15 +125,76 @@ view_members v =
     (put_num (codes "id") v.id.number
     (put_counts v.counts no_members))))))
 
+-- What a look-up holds: the serials of the key and of the peer.
+abbrev pub hold_members : HoldView → Members
+hold_members h = put_num (codes "peer") h.peer (put_num (codes "key") h.key no_members)
+
+-- What became of an inner packet.
+abbrev pub settled_name : Settled → List ℕ
+settled_name settled.Deliver = codes "deliver"
+settled_name settled.Ping = codes "ping"
+settled_name settled.NotIp = codes "not-ip"
+settled_name settled.NotOwner = codes "not-owner"
+
 abbrev pub reply_data : Reply → Data
 reply_data (reply.Made n) = one (codes "serial") (num n)
+reply_data reply.Done = one (codes "ok") (boolean true)
 reply_data (reply.Peer v) = one (codes "peer") (object (view_members v))
 reply_data (reply.Removed ns) = one (codes "removed") (nums ns)
+reply_data (reply.Hold h) = one (codes "hold") (object (hold_members h))
+reply_data reply.NoPeer = one (codes "none") (string (codes "no-peer"))
+reply_data reply.NoKey = one (codes "none") (string (codes "no-key"))
+reply_data (reply.Settled s) = one (codes "settled") (string (settled_name s))
+reply_data reply.Killed = one (codes "spend") (string (codes "killed"))
+reply_data reply.AlreadyGone = one (codes "spend") (string (codes "already-gone"))
 reply_data (reply.Released n) = one (codes "released") (num n)
+reply_data (reply.KeyReleased n) = one (codes "key-released") (num n)
 reply_data (reply.Refused e) = one (codes "error") (num (errno_number e))
+
+-- A transport, and bytes as hexadecimal digits in lower case.
+abbrev pub addr_text : Addr → List ℕ
+addr_text (V4 a) = ipv4_text a
+addr_text (V6 a) = encode_lower a
+
+abbrev pub transport_members : Transport → Members
+transport_members t = put_num (codes "port") t.port (put_text (codes "addr") (addr_text t.addr) no_members)
+
+abbrev pub put_bytes : List ℕ → List ℕ → Members → Members
+put_bytes name bytes ms = put_text name (encode_lower bytes) ms
+
+-- A sealed datagram: where it goes, the serial of its key, its packet id and its bytes.
+unfoldable pub sealed_members : SealedOut → Members
+sealed_members s =
+    put (codes "to") (object (transport_members s.to))
+    (put_num (codes "key") s.key
+    (put_num (codes "id") s.id
+    (put_bytes (codes "datagram") s.datagram no_members)))
+
+-- A delivered packet, with the id of the peer that it is from.
+abbrev pub delivered_members : PeerId → List ℕ → Members
+delivered_members peer packet = put_num (codes "peer") peer.number (put_bytes (codes "packet") packet no_members)
+
+abbrev pub cause_name : DropCause → List ℕ
+cause_name cause.Short = codes "short"
+cause_name cause.DataV1 = codes "data-v1"
+cause_name cause.NoPeer = codes "no-peer"
+cause_name cause.NoKey = codes "no-key"
+cause_name cause.BadTag = codes "bad-tag"
+cause_name cause.Zero = codes "zero"
+cause_name cause.Old = codes "old"
+cause_name cause.Below = codes "below"
+cause_name cause.Again = codes "again"
+cause_name cause.NotIp = codes "not-ip"
+cause_name cause.NotOwner = codes "not-owner"
+cause_name cause.Spent = codes "spent"
 
 abbrev pub answer_data : Answer → Data
 answer_data (answer.Reply r) = reply_data r
+answer_data (answer.Sealed s) = one (codes "sealed") (object (sealed_members s))
+answer_data (answer.Delivered peer packet) = one (codes "delivered") (object (delivered_members peer packet))
+answer_data (answer.Keepalive id) = one (codes "keepalive") (num id.number)
+answer_data answer.Control = one (codes "passed") (string (codes "control"))
+answer_data (answer.Dropped c) = one (codes "dropped") (string (cause_name c))
 
 -- An entry of the journal with its number from 0.
 unfoldable pub entry_data : ℕ → Entry → Data
@@ -154,3 +233,25 @@ note_data n = object (put_num (codes "journal") n.entry (note_members n.body))
 
 abbrev pub note_text : Note → List ℕ
 note_text n = line_text (note_data n)
+
+-- A replay step of a shard.
+abbrev pub verdict_name : Verdict → List ℕ
+verdict_name verdict.Accept = codes "accept"
+verdict_name verdict.Zero = codes "zero"
+verdict_name verdict.Old = codes "old"
+verdict_name verdict.Below = codes "below"
+verdict_name verdict.Again = codes "again"
+
+unfoldable pub replay_data : ℕ → ReplayEntry → Data
+replay_data shard r = object
+    (put_text (codes "verdict") (verdict_name r.verdict)
+    (put_num (codes "shard") shard
+    (put_num (codes "moment") r.moment
+    (put_num (codes "line") r.place.line
+    (put_num (codes "lane") r.place.lane
+    (put_num (codes "key") r.key
+    (put_num (codes "id") r.id
+    (put_num (codes "at") r.at no_members))))))))
+
+abbrev pub replay_text : ℕ → ReplayEntry → List ℕ
+replay_text shard r = line_text (replay_data shard r)

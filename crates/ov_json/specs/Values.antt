@@ -1,9 +1,14 @@
 -- What a JSON value has under a name (RFC 8259 section 4), in the kinds that lines use.
-use Rattle.std.specs.Prelude.{◌≡◌, ℕ, List, [], ◌∷◌, Bool, true, false, ◌&&◌, ◌||◌, nat_le, if◌then◌else◌, Option, Some, None, option_and_then}
+use Rattle.std.specs.Prelude.{◌≡◌, ℕ, List, [], ◌∷◌, length, codes, Bool, true, false, ◌&&◌, ◌||◌, nat_le, if◌then◌else◌, IsTrue, Option, Some, None, option_and_then, Ok}
+use Rattle.std.specs.Result.{result_ok}
 use Rattle.std.specs.Str.{bytes_eq}
 use Rattle.std.specs.Net.Grammar.{IsDotted}
+use Rattle.hex.specs.Hex.{decode_of, decode_sized}
 use Rattle.serde_json.specs.Data.{Data, null, boolean, number, string, array, object, Members, no_members, member}
 use Rattle.serde_json.specs.Find.{get, as_number, as_u64, as_str}
+use Rattle.ov_base.specs.declared.address.Addr.{Addr}
+use Rattle.ov_base.specs.declared.address.Addr.TheVariants.{V4, V6}
+use Rattle.ov_base.specs.declared.address.Transport.{Transport}
 
 -- n, where it is from `least` to `most`
 abbrev pub within : ℕ → ℕ → ℕ → Option ℕ
@@ -42,3 +47,28 @@ has_only names (number n) = false
 has_only names (string s) = false
 has_only names (array ds) = false
 has_only names (object ms) = only_members names ms
+
+-- The bytes that an object has under a name: a text of an even number of hexadecimal digits of either
+-- case, two for each byte, the high four bits first.
+abbrev pub bytes_at : List ℕ → Data → Option (List ℕ)
+bytes_at name d = option_and_then (λ text. result_ok (decode_of text)) (text_at name d)
+
+-- bytes, where there are as many as the test takes
+abbrev pub sized : (ℕ → Bool) → List ℕ → Option (List ℕ)
+sized fits bytes = if fits (length bytes) then Some bytes else None
+
+abbrev pub sized_at : (ℕ → Bool) → List ℕ → Data → Option (List ℕ)
+sized_at fits name d = option_and_then (sized fits) (bytes_at name d)
+
+-- The text of an address: IPv4 in dotted decimal, IPv6 as exactly 32 hexadecimal digits of either case.
+abbrev pub IsAddrText : List ℕ → Addr → Type 0
+IsAddrText text (V4 octets) = IsDotted text octets
+IsAddrText text (V6 octets) = decode_sized text 16 ≡ Ok octets
+
+-- A transport: an object of exactly an address and a port.
+pub record IsTransport (d : Data) (t : Transport) : Type 0 where
+  pub only : IsTrue (has_only (codes "addr" ∷ codes "port" ∷ []) d)
+  pub text : List ℕ
+  pub given : text_at (codes "addr") d ≡ Some text
+  pub addr : IsAddrText text t.addr
+  pub port : number_at (codes "port") 0 65535 d ≡ Some t.port

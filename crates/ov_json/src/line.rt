@@ -32,8 +32,6 @@ pub fn read_line(alloc: Global, line: &[u8], lanes: u32) -> Result<Line, LineSto
         Err(failed) if failed.is_memory() => return Err(LineStop::Memory),
         Err(_) => return Err(LineStop::Bad),
     };
-    let Some(read) = line_of(&value, lanes) else {
-        return Err(LineStop::Bad);
-    };
+    let read = line_of(alloc, &value, lanes)?;
     Ok(read)
 }

@@ -1,18 +1,24 @@
 //! What a JSON object has under a name, in the kinds that lines use.
 
-ghost use Rattle.std.specs.Prelude.{◌≡◌, ℕ, List, MatchOption, map, option_map, string_bytes};
+ghost use Rattle.std.specs.Prelude.{◌≡◌, ◌≤◌, ℕ, List, Some, None, MatchOption, IfSome, IfOk, IfErr, length, map, option_map, string_bytes};
 ghost use Rattle.std.specs.List.{list_all};
 ghost use Rattle.std.specs.BTreeMap.{keys};
 ghost use Rattle.serde_json.specs.View.{view};
+ghost use Rattle.ov_base.specs.declared.address.Addr.{Addr};
 ghost use Rattle.ov_json.specs.Values as spec;
 
+use crate::line::LineStop;
+use hex::{FromHex, FromHexError};
+use ov_base::{Addr, Octets};
 use serde_json::{Map, Value};
+use std::alloc::Global;
 use std::net::Ipv4Addr;
 
 /// The whole number from `least` to `most` under a name; `None` where there is none, or it has a sign, a
 /// fraction or an exponent (RFC 8259 section 6).
 pub fn number_at(value: &Value, name: &str, least: u32, most: u32) -> Option<u32>
-    ensures { result ≡ spec.number_at name.now least most (view value.now) }
+    ensures value { result ≡ spec.number_at name.now least most (view value.now) }
+    ensures most { IfSome result (λ n. n ≤ most) }
 {
     value
         .get(name)
@@ -22,7 +28,8 @@ pub fn number_at(value: &Value, name: &str, least: u32, most: u32) -> Option<u32
 
 /// The number, where it is from `least` to `most`.
 fn within(least: u32, most: u32, n: u64) -> Option<u32>
-    ensures { result ≡ spec.within least most n }
+    ensures value { result ≡ spec.within least most n }
+    ensures most { IfSome result (λ small. small ≤ most) }
 {
     match u32::try_from(n) {
         Ok(small) if least <= small && small <= most => Some(small),
@@ -48,6 +55,37 @@ pub fn address_at(value: &Value, name: &str) -> Option<[u8; 4]>
     match Ipv4Addr::parse_ascii(text.as_bytes()) {
         Ok(address) => Some(address.octets()),
         Err(_) => None,
+    }
+}
+
+/// The bytes whose hexadecimal digits stand under a name. `Bad` comes exactly where there are none: no
+/// text, an odd number of digits, or another character.
+pub fn bytes_at(alloc: Global, value: &Value, name: &str) -> Result<Octets, LineStop>
+    ensures ok { IfOk result (λ bytes. spec.bytes_at name.now (view value.now) ≡ Some bytes) }
+    ensures bad { IfErr result (λ stop. stop ≡ LineStop.Bad → spec.bytes_at name.now (view value.now) ≡ None) }
+{
+    let Some(text) = text_at(value, name) else {
+        return Err(LineStop::Bad);
+    };
+    match hex::decode(alloc, text) {
+        Ok(bytes) => Ok(Octets::of_vec(bytes)),
+        Err(FromHexError::OutOfMemory) => Err(LineStop::Memory),
+        Err(_) => Err(LineStop::Bad),
+    }
+}
+
+/// The address with this text: IPv4 in dotted decimal, IPv6 as 32 hexadecimal digits.
+pub fn addr_of(text: &str) -> Option<Addr>
+    ensures { MatchOption result
+        ((addr : Addr) → ¬ (spec.IsAddrText text.now addr))
+        (λ addr. spec.IsAddrText text.now addr) }
+{
+    match Ipv4Addr::parse_ascii(text.as_bytes()) {
+        Ok(address) => Some(Addr::V4(address.octets())),
+        Err(_) => match <[u8; 16] as FromHex>::from_hex(text) {
+            Ok(octets) => Some(Addr::V6(octets)),
+            Err(_) => None,
+        },
     }
 }
 

@@ -1,16 +1,18 @@
-//! The lines of a report, each a compact JSON object and a line end.
+//! The lines of a report's histories, each a compact JSON object and a line end.
 
 ghost use Rattle.std.specs.Prelude.{◌≡◌, OnOk, IfOk};
-ghost use Rattle.serde_json.specs.Data.{no_members};
+ghost use Rattle.serde_json.specs.Data.{object, no_members};
 ghost use Rattle.serde_json.specs.View.{view, members_view};
 ghost use Rattle.ov_json.specs.Print as spec;
 
 use crate::members::{
-    Members, line_of, numbers, object_of, one, put_ipv4, put_ipv6, put_number, put_text, put_value,
+    Members, line_of, numbers, object_of, one, one_text, put_ipv4, put_ipv6, put_number, put_text,
+    put_value,
 };
 use ov_base::{Addr, Memory, Octets, Transport};
 use ov_model::{
-    Act, Answer, Command, Counts, Entry, Errno, Note, NoteBody, PeerView, Reason, Reply,
+    Act, Command, Counts, Entry, Errno, HoldView, Note, NoteBody, PeerView, Reason, ReplayEntry,
+    Reply, Settled, Verdict,
 };
 use serde_json::{Map, Value};
 use std::alloc::Global;
@@ -23,7 +25,14 @@ fn call_name(act: &Act) -> &'static str
         Act::Do(Command::PeerNew(_)) => "peer-new",
         Act::Do(Command::PeerGet(_)) => "peer-get",
         Act::Do(Command::Remove(_, _)) => "remove",
+        Act::Do(Command::KeyNew(_)) => "key-new",
+        Act::TxLook(_) => "tx-look",
+        Act::RxLook { .. } => "rx-look",
+        Act::Sent { .. } => "sent",
+        Act::Settle { .. } => "settle",
+        Act::Spend { .. } => "spend",
         Act::Released(_) => "released",
+        Act::KeyReleased(_) => "key-released",
     }
 }
 
@@ -36,6 +45,7 @@ fn errno_number(errno: Errno) -> u64
         Errno::Exists => 17,
         Errno::Invalid => 22,
         Errno::NoSpace => 28,
+        Errno::NotSupported => 95,
     }
 }
 
@@ -124,12 +134,35 @@ fn view_of(alloc: Global, peer: &PeerView) -> Result<Members, Memory>
     Ok(members)
 }
 
+/// What a look-up holds.
+fn hold_value(alloc: Global, hold: &HoldView) -> Result<Value, Memory>
+    ensures { IfOk result (λ v. view v ≡ object (spec.hold_members hold.now)) }
+{
+    let mut members = Map::new(alloc);
+    put_number(&mut members, alloc, "key", hold.key as u64)?;
+    put_number(&mut members, alloc, "peer", hold.peer as u64)?;
+    Ok(object_of(members))
+}
+
+/// What became of an inner packet.
+fn settled_name(settled: Settled) -> &'static str
+    ensures { result.now ≡ spec.settled_name settled }
+{
+    match settled {
+        Settled::Deliver => "deliver",
+        Settled::Ping => "ping",
+        Settled::NotIp => "not-ip",
+        Settled::NotOwner => "not-owner",
+    }
+}
+
 /// A reply as JSON.
-fn reply_value(alloc: Global, reply: &Reply) -> Result<Value, Memory>
+pub fn reply_value(alloc: Global, reply: &Reply) -> Result<Value, Memory>
     ensures { IfOk result (λ v. view v ≡ spec.reply_data reply.now) }
 {
     match reply {
         Reply::Made(serial) => one(alloc, "serial", Value::from(*serial)),
+        Reply::Done => one(alloc, "ok", Value::Bool(true)),
         Reply::Peer(peer) => {
             let members = view_of(alloc, peer)?;
             one(alloc, "peer", object_of(members))
@@ -138,17 +171,18 @@ fn reply_value(alloc: Global, reply: &Reply) -> Result<Value, Memory>
             let list = numbers(alloc, serials.as_slice())?;
             one(alloc, "removed", list)
         }
+        Reply::Hold(hold) => {
+            let held = hold_value(alloc, hold)?;
+            one(alloc, "hold", held)
+        }
+        Reply::NoPeer => one_text(alloc, "none", "no-peer"),
+        Reply::NoKey => one_text(alloc, "none", "no-key"),
+        Reply::Settled(settled) => one_text(alloc, "settled", settled_name(*settled)),
+        Reply::Killed => one_text(alloc, "spend", "killed"),
+        Reply::AlreadyGone => one_text(alloc, "spend", "already-gone"),
         Reply::Released(serial) => one(alloc, "released", Value::from(*serial)),
+        Reply::KeyReleased(serial) => one(alloc, "key-released", Value::from(*serial)),
         Reply::Refused(errno) => one(alloc, "error", Value::from(errno_number(*errno))),
-    }
-}
-
-/// An answer as JSON.
-fn answer_value(alloc: Global, answer: &Answer) -> Result<Value, Memory>
-    ensures { IfOk result (λ v. view v ≡ spec.answer_data answer.now) }
-{
-    match answer {
-        Answer::Reply(reply) => reply_value(alloc, reply),
     }
 }
 
@@ -165,19 +199,6 @@ fn entry_value(alloc: Global, number: u64, entry: &Entry) -> Result<Value, Memor
     put_number(&mut members, alloc, "line", entry.place.line)?;
     let reply = reply_value(alloc, &entry.reply)?;
     put_value(&mut members, alloc, "reply", reply)?;
-    Ok(object_of(members))
-}
-
-/// An answer of a lane's line as JSON.
-#[tactic(auto, unfolding(crate::specs::Print::answered_data))]
-fn answered_value(alloc: Global, lane: u32, line: u64, answer: &Answer) -> Result<Value, Memory>
-    ensures { IfOk result (λ v. view v ≡ spec.answered_data lane line answer.now) }
-{
-    let mut members = Map::new(alloc);
-    let value = answer_value(alloc, answer)?;
-    put_value(&mut members, alloc, "answer", value)?;
-    put_number(&mut members, alloc, "lane", lane as u64)?;
-    put_number(&mut members, alloc, "line", line)?;
     Ok(object_of(members))
 }
 
@@ -222,20 +243,50 @@ pub fn entry_line(alloc: Global, number: u64, entry: &Entry) -> Result<Octets, M
     line_of(alloc, &value)
 }
 
-/// The line of the answer of a lane's line; both are numbered from 0.
-#[tactic(auto, using(crate::proofs::NoFloat::answered_no_float))]
-pub fn answer_line(alloc: Global, lane: u32, line: u64, answer: &Answer) -> Result<Octets, Memory>
-    ensures text { IfOk result (λ text. text ≡ spec.answer_text lane line answer.now) }
-{
-    let value = answered_value(alloc, lane, line, answer)?;
-    line_of(alloc, &value)
-}
-
 /// The line of a notification.
 #[tactic(auto, using(crate::proofs::NoFloat::note_no_float))]
 pub fn note_line(alloc: Global, note: &Note) -> Result<Octets, Memory>
     ensures text { IfOk result (λ line. line ≡ spec.note_text note.now) }
 {
     let value = note_value(alloc, note)?;
+    line_of(alloc, &value)
+}
+
+/// The word of a verdict of the replay rule.
+fn verdict_name(verdict: Verdict) -> &'static str
+    ensures { result.now ≡ spec.verdict_name verdict }
+{
+    match verdict {
+        Verdict::Accept => "accept",
+        Verdict::Zero => "zero",
+        Verdict::Old => "old",
+        Verdict::Below => "below",
+        Verdict::Again => "again",
+    }
+}
+
+/// A replay step as JSON.
+#[tactic(auto, unfolding(crate::specs::Print::replay_data))]
+fn replay_value(alloc: Global, shard: u32, entry: &ReplayEntry) -> Result<Value, Memory>
+    ensures { IfOk result (λ v. view v ≡ spec.replay_data shard entry.now) }
+{
+    let mut members = Map::new(alloc);
+    put_number(&mut members, alloc, "at", entry.at as u64)?;
+    put_number(&mut members, alloc, "id", entry.id as u64)?;
+    put_number(&mut members, alloc, "key", entry.key as u64)?;
+    put_number(&mut members, alloc, "lane", entry.place.lane as u64)?;
+    put_number(&mut members, alloc, "line", entry.place.line)?;
+    put_number(&mut members, alloc, "moment", entry.moment as u64)?;
+    put_number(&mut members, alloc, "shard", shard as u64)?;
+    put_text(&mut members, alloc, "verdict", verdict_name(entry.verdict))?;
+    Ok(object_of(members))
+}
+
+/// The line of a replay step of a shard, which is numbered from 0.
+#[tactic(auto, using(crate::proofs::NoFloat::replay_no_float))]
+pub fn replay_line(alloc: Global, shard: u32, entry: &ReplayEntry) -> Result<Octets, Memory>
+    ensures text { IfOk result (λ line. line ≡ spec.replay_text shard entry.now) }
+{
+    let value = replay_value(alloc, shard, entry)?;
     line_of(alloc, &value)
 }

@@ -20,6 +20,7 @@ fn named(lane: u32, at: u32, op: NlOp, id: u32) -> Line {
         op,
         ifindex: None,
         peer: Some(peer),
+        keyconf: None,
     };
     Line {
         lane,

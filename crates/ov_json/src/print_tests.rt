@@ -1,0 +1,413 @@
+use crate::{answer_line, entry_line, note_line, replay_line};
+use ov_base::{Addr, ListOf, Memory, Octets, Transport};
+use ov_model::{
+    Act, Answer, Attrs, Call, Command, Counts, DropCause, Entry, Errno, HoldView, InnerKind,
+    Keepalive, KeyBytes, KeyConf, KeyDir, KeyId, Note, NoteBody, PeerId, PeerView, Place, Reason,
+    ReplayEntry, Reply, SealedOut, Settled, Slot, Verdict,
+};
+use std::alloc::Global;
+use std::test::Fail;
+
+/// An IPv4 packet without content from 10.8.0.5 to itself.
+const PACKET: [u8; 20] = [
+    0x45, 0, 0, 20, 0, 0, 0, 0, 64, 17, 0, 0, 10, 8, 0, 5, 10, 8, 0, 5,
+];
+
+/// The list with one serial.
+fn one(alloc: Global, serial: u32) -> Result<ListOf<u32>, Memory> {
+    let mut list = ListOf::new(alloc);
+    match list.push(serial) {
+        Ok(()) => Ok(list),
+        Err(_) => Err(Memory),
+    }
+}
+
+/// The remote 192.0.2.1 with port 1194.
+fn first_remote() -> Transport {
+    Transport {
+        addr: Addr::V4([192, 0, 2, 1]),
+        port: 1194,
+    }
+}
+
+#[test]
+fn answers_have_their_texts(rt: HostRuntime) -> Result<(), Fail> {
+    let (Some(peer), Some(key_id)) = (PeerId::new(5), KeyId::new(2)) else {
+        panic!(rt; "ids in range");
+    };
+    let four = first_remote();
+    let six = Transport {
+        addr: Addr::V6([0xfd, 0, 0, 0, 0, 0, 0, 0, 0, 0, 0, 0, 0, 0, 0, 0xab]),
+        port: 65535,
+    };
+    let hold = HoldView {
+        peer: 3,
+        id: peer,
+        key: 7,
+        key_id,
+        to: four,
+    };
+    let rows = [
+        (
+            Answer::Reply(Reply::Made(0)),
+            "{\"answer\":{\"serial\":0},\"lane\":1,\"line\":3}\n",
+        ),
+        (
+            Answer::Reply(Reply::Done),
+            "{\"answer\":{\"ok\":true},\"lane\":1,\"line\":3}\n",
+        ),
+        (
+            Answer::Reply(Reply::Removed(one(rt.alloc(), 0)?)),
+            "{\"answer\":{\"removed\":[0]},\"lane\":1,\"line\":3}\n",
+        ),
+        (
+            Answer::Reply(Reply::Hold(hold)),
+            "{\"answer\":{\"hold\":{\"key\":7,\"peer\":3}},\"lane\":1,\"line\":3}\n",
+        ),
+        (
+            Answer::Reply(Reply::NoPeer),
+            "{\"answer\":{\"none\":\"no-peer\"},\"lane\":1,\"line\":3}\n",
+        ),
+        (
+            Answer::Reply(Reply::NoKey),
+            "{\"answer\":{\"none\":\"no-key\"},\"lane\":1,\"line\":3}\n",
+        ),
+        (
+            Answer::Reply(Reply::Settled(Settled::Deliver)),
+            "{\"answer\":{\"settled\":\"deliver\"},\"lane\":1,\"line\":3}\n",
+        ),
+        (
+            Answer::Reply(Reply::Settled(Settled::Ping)),
+            "{\"answer\":{\"settled\":\"ping\"},\"lane\":1,\"line\":3}\n",
+        ),
+        (
+            Answer::Reply(Reply::Settled(Settled::NotIp)),
+            "{\"answer\":{\"settled\":\"not-ip\"},\"lane\":1,\"line\":3}\n",
+        ),
+        (
+            Answer::Reply(Reply::Settled(Settled::NotOwner)),
+            "{\"answer\":{\"settled\":\"not-owner\"},\"lane\":1,\"line\":3}\n",
+        ),
+        (
+            Answer::Reply(Reply::Killed),
+            "{\"answer\":{\"spend\":\"killed\"},\"lane\":1,\"line\":3}\n",
+        ),
+        (
+            Answer::Reply(Reply::AlreadyGone),
+            "{\"answer\":{\"spend\":\"already-gone\"},\"lane\":1,\"line\":3}\n",
+        ),
+        (
+            Answer::Reply(Reply::Released(0)),
+            "{\"answer\":{\"released\":0},\"lane\":1,\"line\":3}\n",
+        ),
+        (
+            Answer::Reply(Reply::KeyReleased(0)),
+            "{\"answer\":{\"key-released\":0},\"lane\":1,\"line\":3}\n",
+        ),
+        (
+            Answer::Reply(Reply::Refused(Errno::NoEntry)),
+            "{\"answer\":{\"error\":2},\"lane\":1,\"line\":3}\n",
+        ),
+        (
+            Answer::Reply(Reply::Refused(Errno::Exists)),
+            "{\"answer\":{\"error\":17},\"lane\":1,\"line\":3}\n",
+        ),
+        (
+            Answer::Reply(Reply::Refused(Errno::Invalid)),
+            "{\"answer\":{\"error\":22},\"lane\":1,\"line\":3}\n",
+        ),
+        (
+            Answer::Reply(Reply::Refused(Errno::NoSpace)),
+            "{\"answer\":{\"error\":28},\"lane\":1,\"line\":3}\n",
+        ),
+        (
+            Answer::Reply(Reply::Refused(Errno::NotSupported)),
+            "{\"answer\":{\"error\":95},\"lane\":1,\"line\":3}\n",
+        ),
+        (
+            Answer::Sealed(SealedOut {
+                to: four,
+                key: 0,
+                id: 1,
+                datagram: Octets::of(rt.alloc(), &[0x4a, 0, 0, 5, 0, 0, 0, 1])?,
+            }),
+            "{\"answer\":{\"sealed\":{\"datagram\":\"4a00000500000001\",\"id\":1,\"key\":0,\"to\":{\"addr\":\"192.0.2.1\",\"port\":1194}}},\"lane\":1,\"line\":3}\n",
+        ),
+        (
+            Answer::Sealed(SealedOut {
+                to: six,
+                key: 4,
+                id: 4294967295,
+                datagram: Octets::of(rt.alloc(), &[])?,
+            }),
+            "{\"answer\":{\"sealed\":{\"datagram\":\"\",\"id\":4294967295,\"key\":4,\"to\":{\"addr\":\"fd0000000000000000000000000000ab\",\"port\":65535}}},\"lane\":1,\"line\":3}\n",
+        ),
+        (
+            Answer::Delivered {
+                peer,
+                packet: Octets::of(rt.alloc(), &PACKET)?,
+            },
+            "{\"answer\":{\"delivered\":{\"packet\":\"4500001400000000401100000a0800050a080005\",\"peer\":5}},\"lane\":1,\"line\":3}\n",
+        ),
+        (
+            Answer::Keepalive(peer),
+            "{\"answer\":{\"keepalive\":5},\"lane\":1,\"line\":3}\n",
+        ),
+        (
+            Answer::Control,
+            "{\"answer\":{\"passed\":\"control\"},\"lane\":1,\"line\":3}\n",
+        ),
+        (
+            Answer::Dropped(DropCause::Short),
+            "{\"answer\":{\"dropped\":\"short\"},\"lane\":1,\"line\":3}\n",
+        ),
+        (
+            Answer::Dropped(DropCause::DataV1),
+            "{\"answer\":{\"dropped\":\"data-v1\"},\"lane\":1,\"line\":3}\n",
+        ),
+        (
+            Answer::Dropped(DropCause::NoPeer),
+            "{\"answer\":{\"dropped\":\"no-peer\"},\"lane\":1,\"line\":3}\n",
+        ),
+        (
+            Answer::Dropped(DropCause::NoKey),
+            "{\"answer\":{\"dropped\":\"no-key\"},\"lane\":1,\"line\":3}\n",
+        ),
+        (
+            Answer::Dropped(DropCause::BadTag),
+            "{\"answer\":{\"dropped\":\"bad-tag\"},\"lane\":1,\"line\":3}\n",
+        ),
+        (
+            Answer::Dropped(DropCause::Zero),
+            "{\"answer\":{\"dropped\":\"zero\"},\"lane\":1,\"line\":3}\n",
+        ),
+        (
+            Answer::Dropped(DropCause::Old),
+            "{\"answer\":{\"dropped\":\"old\"},\"lane\":1,\"line\":3}\n",
+        ),
+        (
+            Answer::Dropped(DropCause::Below),
+            "{\"answer\":{\"dropped\":\"below\"},\"lane\":1,\"line\":3}\n",
+        ),
+        (
+            Answer::Dropped(DropCause::Again),
+            "{\"answer\":{\"dropped\":\"again\"},\"lane\":1,\"line\":3}\n",
+        ),
+        (
+            Answer::Dropped(DropCause::NotIp),
+            "{\"answer\":{\"dropped\":\"not-ip\"},\"lane\":1,\"line\":3}\n",
+        ),
+        (
+            Answer::Dropped(DropCause::NotOwner),
+            "{\"answer\":{\"dropped\":\"not-owner\"},\"lane\":1,\"line\":3}\n",
+        ),
+        (
+            Answer::Dropped(DropCause::Spent),
+            "{\"answer\":{\"dropped\":\"spent\"},\"lane\":1,\"line\":3}\n",
+        ),
+    ];
+    for (number, (answer, text)) in rows.iter().enumerate() {
+        let line = answer_line(rt.alloc(), 1, 3, answer)?;
+        assert!(rt; line.as_slice() == text.as_bytes(), "row {number}");
+    }
+    Ok(())
+}
+
+#[test]
+fn entries_have_their_calls(rt: HostRuntime) -> Result<(), Fail> {
+    let (Some(peer), Some(key_id)) = (PeerId::new(5), KeyId::new(2)) else {
+        panic!(rt; "ids in range");
+    };
+    let four = first_remote();
+    let dir = KeyDir {
+        key: KeyBytes::K16([0; 16]),
+        tail: [0; 8],
+    };
+    let conf = KeyConf {
+        peer,
+        slot: Slot::Primary,
+        key_id,
+        encrypt: dir,
+        decrypt: dir,
+    };
+    let attrs = Attrs {
+        id: peer,
+        remote: Some(four),
+        vpn4: Some([10, 8, 0, 5]),
+        vpn6: None,
+        keepalive: None,
+    };
+    let rows = [
+        (
+            Act::Do(Command::PeerNew(attrs)),
+            "{\"at\":0,\"call\":\"peer-new\",\"journal\":3,\"lane\":0,\"line\":2,\"reply\":{\"key-released\":0}}\n",
+        ),
+        (
+            Act::Do(Command::PeerGet(peer)),
+            "{\"at\":0,\"call\":\"peer-get\",\"journal\":3,\"lane\":0,\"line\":2,\"reply\":{\"key-released\":0}}\n",
+        ),
+        (
+            Act::Do(Command::Remove(peer, Reason::Userspace)),
+            "{\"at\":0,\"call\":\"remove\",\"journal\":3,\"lane\":0,\"line\":2,\"reply\":{\"key-released\":0}}\n",
+        ),
+        (
+            Act::Do(Command::KeyNew(conf)),
+            "{\"at\":0,\"call\":\"key-new\",\"journal\":3,\"lane\":0,\"line\":2,\"reply\":{\"key-released\":0}}\n",
+        ),
+        (
+            Act::TxLook(Addr::V4([10, 8, 0, 5])),
+            "{\"at\":0,\"call\":\"tx-look\",\"journal\":3,\"lane\":0,\"line\":2,\"reply\":{\"key-released\":0}}\n",
+        ),
+        (
+            Act::RxLook {
+                id: peer,
+                key_id,
+                from: four,
+            },
+            "{\"at\":0,\"call\":\"rx-look\",\"journal\":3,\"lane\":0,\"line\":2,\"reply\":{\"key-released\":0}}\n",
+        ),
+        (
+            Act::Sent {
+                peer: 0,
+                inner: 20,
+                outer: 44,
+                ping: false,
+            },
+            "{\"at\":0,\"call\":\"sent\",\"journal\":3,\"lane\":0,\"line\":2,\"reply\":{\"key-released\":0}}\n",
+        ),
+        (
+            Act::Settle {
+                peer: 0,
+                from: None,
+                kind: InnerKind::Ping,
+                inner: 16,
+                outer: 40,
+            },
+            "{\"at\":0,\"call\":\"settle\",\"journal\":3,\"lane\":0,\"line\":2,\"reply\":{\"key-released\":0}}\n",
+        ),
+        (
+            Act::Spend { peer: 0, key: 0 },
+            "{\"at\":0,\"call\":\"spend\",\"journal\":3,\"lane\":0,\"line\":2,\"reply\":{\"key-released\":0}}\n",
+        ),
+        (
+            Act::Released(0),
+            "{\"at\":0,\"call\":\"released\",\"journal\":3,\"lane\":0,\"line\":2,\"reply\":{\"key-released\":0}}\n",
+        ),
+        (
+            Act::KeyReleased(0),
+            "{\"at\":0,\"call\":\"key-released\",\"journal\":3,\"lane\":0,\"line\":2,\"reply\":{\"key-released\":0}}\n",
+        ),
+    ];
+    for (number, (act, text)) in rows.iter().enumerate() {
+        let entry = Entry {
+            place: Place { lane: 0, line: 2 },
+            call: Call { at: 0, act: *act },
+            reply: Reply::KeyReleased(0),
+        };
+        let line = entry_line(rt.alloc(), 3, &entry)?;
+        assert!(rt; line.as_slice() == text.as_bytes(), "row {number}");
+    }
+    Ok(())
+}
+
+#[test]
+fn a_shown_peer_has_its_fourteen_names(rt: HostRuntime) -> Result<(), Fail> {
+    let Some(id) = PeerId::new(5) else {
+        panic!(rt; "an id in range");
+    };
+    let view = PeerView {
+        id,
+        remote: first_remote(),
+        vpn4: Some([10, 8, 0, 5]),
+        vpn6: None,
+        keepalive: Keepalive {
+            interval: 0,
+            timeout: 0,
+        },
+        counts: Counts {
+            vpn_rx_bytes: 0,
+            vpn_rx_packets: 0,
+            vpn_tx_bytes: 0,
+            vpn_tx_packets: 0,
+            link_rx_bytes: 0,
+            link_rx_packets: 0,
+            link_tx_bytes: 0,
+            link_tx_packets: 0,
+        },
+    };
+    let line = answer_line(rt.alloc(), 0, 1, &Answer::Reply(Reply::Peer(view)))?;
+    let text =
+        "{\"answer\":{\"peer\":{\"id\":5,\"keepalive-interval\":0,\"keepalive-timeout\":0,\"link-rx-bytes\":0,\"link-rx-packets\":0,\"link-tx-bytes\":0,\"link-tx-packets\":0,\"remote-ipv4\":\"192.0.2.1\",\"remote-port\":1194,\"vpn-ipv4\":\"10.8.0.5\",\"vpn-rx-bytes\":0,\"vpn-rx-packets\":0,\"vpn-tx-bytes\":0,\"vpn-tx-packets\":0}},\"lane\":0,\"line\":1}\n";
+    assert!(rt; line.as_slice() == text.as_bytes());
+    Ok(())
+}
+
+#[test]
+fn replay_steps_have_their_texts(rt: HostRuntime) -> Result<(), Fail> {
+    let rows = [
+        (
+            Verdict::Accept,
+            "{\"at\":29,\"id\":4294967295,\"key\":9,\"lane\":1,\"line\":2,\"moment\":59,\"shard\":1,\"verdict\":\"accept\"}\n",
+        ),
+        (
+            Verdict::Zero,
+            "{\"at\":29,\"id\":4294967295,\"key\":9,\"lane\":1,\"line\":2,\"moment\":59,\"shard\":1,\"verdict\":\"zero\"}\n",
+        ),
+        (
+            Verdict::Old,
+            "{\"at\":29,\"id\":4294967295,\"key\":9,\"lane\":1,\"line\":2,\"moment\":59,\"shard\":1,\"verdict\":\"old\"}\n",
+        ),
+        (
+            Verdict::Below,
+            "{\"at\":29,\"id\":4294967295,\"key\":9,\"lane\":1,\"line\":2,\"moment\":59,\"shard\":1,\"verdict\":\"below\"}\n",
+        ),
+        (
+            Verdict::Again,
+            "{\"at\":29,\"id\":4294967295,\"key\":9,\"lane\":1,\"line\":2,\"moment\":59,\"shard\":1,\"verdict\":\"again\"}\n",
+        ),
+    ];
+    for (number, (verdict, text)) in rows.iter().enumerate() {
+        let entry = ReplayEntry {
+            place: Place { lane: 1, line: 2 },
+            key: 9,
+            id: 4294967295,
+            at: 29,
+            moment: 59,
+            verdict: *verdict,
+        };
+        let line = replay_line(rt.alloc(), 1, &entry)?;
+        assert!(rt; line.as_slice() == text.as_bytes(), "row {number}");
+    }
+    Ok(())
+}
+
+#[test]
+fn notes_have_their_texts(rt: HostRuntime) -> Result<(), Fail> {
+    let (Some(id), Some(key_id)) = (PeerId::new(5), KeyId::new(2)) else {
+        panic!(rt; "ids in range");
+    };
+    let rows = [
+        (
+            Note {
+                entry: 2,
+                body: NoteBody::PeerDel {
+                    id,
+                    reason: Reason::Userspace,
+                },
+            },
+            "{\"journal\":2,\"notify\":\"peer-del-ntf\",\"peer\":{\"del-reason\":\"userspace\",\"id\":5}}\n",
+        ),
+        (
+            Note {
+                entry: 5,
+                body: NoteBody::KeySwap { id, key_id },
+            },
+            "{\"journal\":5,\"keyconf\":{\"key-id\":2,\"peer-id\":5},\"notify\":\"key-swap-ntf\"}\n",
+        ),
+    ];
+    for (number, (note, text)) in rows.iter().enumerate() {
+        let line = note_line(rt.alloc(), note)?;
+        assert!(rt; line.as_slice() == text.as_bytes(), "row {number}");
+    }
+    Ok(())
+}

@@ -1,0 +1,10 @@
+//! The text of a report: its lines in their order, and its summary.
+#![tactic(auto)]
+
+pub mod counts;
+pub mod differ;
+pub mod summary;
+pub mod text;
+
+pub use differ::keys_differ;
+pub use text::text_of;
