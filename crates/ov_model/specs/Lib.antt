@@ -6,6 +6,7 @@ pub mod Checked
 pub mod Packets
 pub mod Events
 pub mod Path
+pub mod Sizes
 pub mod Next
 pub mod Replay
 pub mod Removals

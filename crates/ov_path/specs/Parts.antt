@@ -11,13 +11,6 @@ use Rattle.ov_model.specs.Path.{Begin, at_once, first, IsLook, cause_of}
 use Rattle.ov_path.specs.declared.begun.Begun.{Begun}
 use Rattle.ov_path.specs.declared.begun.Begun.TheVariants as begun
 
--- The most bytes of an inner packet to be sent and of a received datagram: what UDP over IPv4 carries, and
--- 24 bytes less.
-abbrev pub Fits : Deed → Type 0
-Fits (deed.Netlink m) = ⊤
-Fits (deed.Tx packet) = length packet ≤ 65483
-Fits (deed.Rx from bytes) = length bytes ≤ 65507
-
 -- A datagram's head is that of a data packet of the second version.
 abbrev pub IsData : HeadKind → Type 0
 IsData (data_v2 id key_id packet_id) = ⊤

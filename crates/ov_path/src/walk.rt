@@ -12,7 +12,8 @@ ghost use Rattle.ov_model.specs.Path.{begins, first, settled_answer, IsLook};
 ghost use Rattle.ov_model.specs.Events.{Event};
 ghost use Rattle.ov_model.specs.Next.{next, is_killed, stand_of};
 ghost use Rattle.ov_path.specs.Desks.{NoHold, HoldsKey, IsUnused, first_owed, Grows};
-ghost use Rattle.ov_path.specs.Parts.{Fits, refusal};
+ghost use Rattle.ov_model.specs.Sizes.{Fits};
+ghost use Rattle.ov_path.specs.Parts.{refusal};
 ghost use Rattle.ov_path.specs.Walks.{Walking, IsOpen, Progressed, IsTx, IsRx, AnswerIs, Made, MadeOrNone};
 
 use crate::begun::{Begun, begin_of};
