@@ -215,3 +215,8 @@ pub record Made {D : Type 0} (does : Event → D → Type 0) (asked : Ask) (old 
 pub data MadeOrNone {D : Type 0} (does : Event → D → Type 0) (asked : Ask) (old new : Shown) (before after : D) : Type 0 where
   made : Made does asked old new after → MadeOrNone does asked old new before after
   nothing : asked ≡ Nil → after ≡ before → MadeOrNone does asked old new before after
+
+-- A line that goes on has made an event.
+abbrev pub MadeBy : {D : Type 0} → Progress → (Event → D → Type 0) → Ask → Shown → Shown → D → D → Type 0
+MadeBy More does asked old new before after = Made does asked old new after
+MadeBy (Answered b) does asked old new before after = MadeOrNone does asked old new before after

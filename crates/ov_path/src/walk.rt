@@ -14,7 +14,7 @@ ghost use Rattle.ov_model.specs.Next.{next, is_killed, stand_of};
 ghost use Rattle.ov_path.specs.Desks.{NoHold, HoldsKey, IsUnused, first_owed, Grows};
 ghost use Rattle.ov_model.specs.Sizes.{Fits};
 ghost use Rattle.ov_path.specs.Parts.{refusal};
-ghost use Rattle.ov_path.specs.Walks.{Walking, IsOpen, Progressed, IsTx, IsRx, AnswerIs, Made, MadeOrNone};
+ghost use Rattle.ov_path.specs.Walks.{Walking, IsOpen, Progressed, IsTx, IsRx, AnswerIs, Made, MadeOrNone, MadeBy};
 
 use crate::begun::{Begun, begin_of};
 use crate::calls::{sent_of, settle_of};
@@ -208,7 +208,7 @@ impl Walk {
     fn begin<D: Desk>(&mut self, desk: &mut D, line: &Line) -> Result<Progress, Memory>
         requires at { Walking (D.material desk.old) (D.via desk.old) self.old.place line.now (D.shown desk.old) stand.Fresh self.old.answer }
         ensures then { IfOk result (λ r. Progressed (D.material desk.new) (D.via desk.new) self.new.place line.now (D.shown desk.new) self.new.stand self.new.answer r) }
-        ensures made { OnOk result (MadeOrNone (D.does desk.old) (next (D.via desk.old) (D.material desk.new) line.now (D.shown desk.old).events (D.shown desk.old).owing) (D.shown desk.old) (D.shown desk.new) desk.old desk.new) }
+        ensures made { IfOk result (λ r. MadeBy r (D.does desk.old) (next (D.via desk.old) (D.material desk.new) line.now (D.shown desk.old).events (D.shown desk.old).owing) (D.shown desk.old) (D.shown desk.new) desk.old desk.new) }
         ensures err { OnErr result (D.shown desk.new ≡ D.shown desk.old) }
         ensures kept { OnErr result (self.new ≡ self.old) }
         ensures grows { Grows (D.material desk.old) (D.material desk.new) }
@@ -417,7 +417,7 @@ impl Walk {
         requires open { IsOpen self.old.stand (D.shown desk.old).owing }
         requires fits { Fits line.now.deed }
         ensures then { IfOk result (λ r. Progressed (D.material desk.new) (D.via desk.new) self.new.place line.now (D.shown desk.new) self.new.stand self.new.answer r) }
-        ensures made { OnOk result (MadeOrNone (D.does desk.old) (next (D.via desk.old) (D.material desk.new) line.now (D.shown desk.old).events (D.shown desk.old).owing) (D.shown desk.old) (D.shown desk.new) desk.old desk.new) }
+        ensures made { IfOk result (λ r. MadeBy r (D.does desk.old) (next (D.via desk.old) (D.material desk.new) line.now (D.shown desk.old).events (D.shown desk.old).owing) (D.shown desk.old) (D.shown desk.new) desk.old desk.new) }
         ensures err { OnErr result (D.shown desk.new ≡ D.shown desk.old) }
         ensures kept { OnErr result (self.new ≡ self.old) }
         ensures grows { Grows (D.material desk.old) (D.material desk.new) }

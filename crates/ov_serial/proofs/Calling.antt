@@ -34,10 +34,10 @@ use Rattle.ov_model.specs.Keys.{key_of}
 use Rattle.ov_model.proofs.Removing.{serials, some_all, Joins, command_joins, Keeps, tx_look_keeps, rx_look_keeps, sent_keeps, settle_keeps, Spends, spend_spends}
 use Rattle.ov_model.proofs.KeysTaken.{key_made_by}
 use Rattle.ov_path.specs.Desks.{Shown, Holding, NoHold, Both, PeerLeft, IsFree, IsDrawn, IsJudged, IsSpent, HoldsPeer, HoldsKey, MayCall, Called, Joins as JoinsOwed, IsReplyOf, IsLookReply, HasMaterial, Grows, held_after, stepped_as}
-use Rattle.ov_table.specs.Recorded.{Recorded, stepped, entry_of, IsTold}
+use Rattle.ov_table.specs.Recorded.{Recorded, stepped, entry_of, IsTold, is_release}
 use Rattle.ov_table.proofs.Told.{told_step}
 use Rattle.ov_serial.specs.declared.past.Mark.TheVariants as mark
-use Rattle.ov_serial.specs.Desks.{Serial, shown_of, next_of, waiting, owing_of, material_of_desk, events_of, steps_marked, debt, killed_by, Ready, StandSound, HoldSound, IsHeldSound, Sound, HasStepped, Happened, SpentIsDry, SameNext, step_made, after_step}
+use Rattle.ov_serial.specs.Desks.{Serial, shown_of, next_of, waiting, owing_of, material_of_desk, events_of, steps_marked, debt, killed_by, Ready, StandSound, HoldSound, IsHeldSound, Sound, HasStepped, Happened, SpentIsDry, SameNext, RoomAfter, step_made, after_step}
 use Rattle.ov_serial.proofs.Marks.{shown_stepped, marked_step}
 use Rattle.ov_serial.proofs.Acts.{get_or_more, keys_made_by, Holds, Looks, tx_looks, rx_looks, sent_done, SettledReply, settle_says, Few, command_few}
 use Rattle.ov_serial.proofs.KeysKept.{key_of_more, key_below}
@@ -185,9 +185,9 @@ made_now d place call r sound reply_is =
 pub step_done : (d : Serial) (place : Place) (call : Call) (r : Reply) (joined : List Owed) → Sound d → may_act d.table.now call.act ≡ true → r ≡ (step d.table.now call).reply
     → IsReplyOf call.act r → JoinsOwed call.act r (step d.table.now call).taken joined → HasMaterial (material_of_desk (after_step d place call r)) call.act r
     → (shown_of (after_step d place call r)).owing ≡ (shown_of d).owing ++ joined → length (shown_of (after_step d place call r)).owing ≤ 4
-    → IsHeldSound (after_step d place call r) (after_step d place call r).hold (stand_of (shown_of (after_step d place call r)).events) → SpentIsDry d call.act
+    → IsHeldSound (after_step d place call r) (after_step d place call r).hold (stand_of (shown_of (after_step d place call r)).events) → SpentIsDry d call.act → RoomAfter (is_release call.act) d.room 8
     → CallDone d place call r
-step_done d place call r joined sound may reply_is fits joins has owing few held dry =
+step_done d place call r joined sound may reply_is fits joins has owing few held dry room =
     let e : Serial = after_step d place call r in
     let taken : List ℕ = (step d.table.now call).taken in
     let events : (shown_of e).events ≡ (shown_of d).events ++ Stepped (step_made d.table place call) ∷ [] = events_stepped d place call r sound in
@@ -197,6 +197,7 @@ step_done d place call r joined sound may reply_is fits joins has owing few held
     let shown_is : shown_of e ≡ P ((shown_of d).events ++ stepped_as place call r taken ∷ []) ((shown_of d).owing ++ joined) = ap (λ x. P x (shown_of e).owing) events_are ∙ ap (λ y. P ((shown_of d).events ++ stepped_as place call r taken ∷ []) y) owing in
     let made : Happened d (Stepped (step_made d.table place call)) e = record {
       makes = record { may = may; step_is = refl; table = refl; shards = refl; next = same_next d place call r; dry = dry };
+      room = room;
       first = refl;
       start = refl;
     } in

@@ -19,10 +19,10 @@ use Rattle.ov_model.specs.Events.{Event, Stepped, GaveKey, GavePeer, Step, steps
 use Rattle.ov_model.specs.Next.{see, stand_of}
 use Rattle.ov_model.proofs.Removing.{serials, LetsGo, lets_go, LetsKeyGo, lets_key_go}
 use Rattle.ov_path.specs.Desks.{Shown, Holding, NoHold, Both, PeerLeft, HoldsKey, LeftPeer, peer_left, owed_if, first_owed, after_first}
-use Rattle.ov_table.specs.Recorded.{Recorded, stepped, entry_of, IsTold, first_waiting, waiting_of}
+use Rattle.ov_table.specs.Recorded.{Recorded, stepped, entry_of, IsTold, is_release, first_waiting, waiting_of}
 use Rattle.ov_table.proofs.Told.{told_step}
 use Rattle.ov_serial.specs.declared.past.Mark.TheVariants as mark
-use Rattle.ov_serial.specs.Desks.{Serial, shown_of, next_of, waiting, owing_of, material_of_desk, events_of, line_steps, steps_marked, debt, killed_by, HoldSound, IsHeldSound, Sound, Happened, SpentIsDry, step_made, owed_by, given_where, after_key, after_peer, release_call, after_release, after_begin}
+use Rattle.ov_serial.specs.Desks.{Serial, shown_of, next_of, waiting, owing_of, material_of_desk, events_of, line_steps, steps_marked, debt, killed_by, HoldSound, IsHeldSound, Sound, Happened, SpentIsDry, RoomAfter, step_made, owed_by, given_where, after_key, after_peer, release_call, after_release, after_begin}
 use Rattle.ov_serial.proofs.Marks.{shown_stepped, shown_marked, marked_step, marked_other, length-steps_of}
 use Rattle.ov_serial.proofs.Calling.{no_peers, nothing_waits, seen}
 use Rattle.ov_serial.proofs.Marking.{MarkDone, shown_by}
@@ -131,7 +131,7 @@ key_done d key sound names =
     let few : length (owing_of (peer_left d.hold) d.table.now) ≤ 1 = leaves.few in
     record {
       shown_is = shown_by e ((shown_of d).events ++ GaveKey key g ∷ []) ((shown_of d).owing ++ owed_if g (owed.Key key)) events leaves.owing;
-      done = record { makes = record { table = refl; shards = refl; next = λ k. refl }; first = refl; start = refl };
+      done = record { makes = record { table = refl; shards = refl; next = λ k. refl }; room = omega arith; first = refl; start = refl };
       sound = record {
         told = sound.told;
         eight = sound.eight;
@@ -169,7 +169,7 @@ peer_done d peer sound names =
     let lower : 1 ≤ debt d.hold s = leaves.lower in
     record {
       shown_is = shown_by e ((shown_of d).events ++ GavePeer peer given.More ∷ []) ((shown_of d).owing ++ []) events leaves.owing;
-      done = record { makes = record { table = refl; shards = refl; next = λ k. refl }; first = refl; start = refl };
+      done = record { makes = record { table = refl; shards = refl; next = λ k. refl }; room = omega arith; first = refl; start = refl };
       sound = record {
         told = sound.told;
         eight = sound.eight;
@@ -267,6 +267,10 @@ release_dry : (d : Serial) (at : ℕ) (o : Owed) → SpentIsDry d (release_call 
 release_dry d at (owed.Peer p) = tt
 release_dry d at (owed.Key k) = tt
 
+release_room : (was now at : ℕ) (o : Owed) → now + 1 ≡ was → RoomAfter (is_release (release_call at o).act) was now
+release_room was now at (owed.Peer p) less = less
+release_room was now at (owed.Key k) less = less
+
 pub release_done : (d : Serial) (place : Place) (at : ℕ) (o : Owed) → Sound d → first_owed (shown_of d).owing ≡ Some o → MarkDone d (after_release d place at o) (Stepped (release_of place at o)) d.hold (after_first (shown_of d).owing)
 release_done d place at o sound is =
     let e : Serial = after_release d place at o in
@@ -279,11 +283,6 @@ release_done d place at o sound is =
     let events : (shown_of e).events ≡ (shown_of d).events ++ Stepped (step_made d.table place call) ∷ [] = shown_stepped d e place call sound.told.last sound.marked refl refl refl in
     let events_are : (shown_of e).events ≡ (shown_of d).events ++ Stepped (release_of place at o) ∷ [] = events ∙ ap (λ x. (shown_of d).events ++ Stepped x ∷ []) releases.step_is in
     let owing : (shown_of e).owing ≡ after_first (shown_of d).owing = all.owing_now ∙ releases.waits ∙ ap after_first (sym before.owing) in
-    let made : Happened d (Stepped (step_made d.table place call)) e = record {
-      makes = record { may = releases.may; step_is = refl; table = refl; shards = refl; next = λ k. refl; dry = release_dry d at o };
-      first = refl;
-      start = refl;
-    } in
     let length_now : length (stepped d.table place call).journal ≡ length d.table.journal + 1 = length-append d.table.journal (entry_of d.table.now place call ∷ []) in
     let marks : steps_marked e.marks ≡ steps_marked d.marks + 1 = marked_step d.marks in
     let was : d.start + steps_marked d.marks ≡ length d.table.journal = sound.marked in
@@ -291,6 +290,12 @@ release_done d place at o sound is =
     let same : debt d.hold after ≡ debt d.hold s = all.debt_same s in
     let fewer : length (after_first (shown_of d).owing) + 1 ≡ length (shown_of d).owing = shorter (shown_of d).owing o is in
     let long : length (shown_of e).owing ≡ length (after_first (shown_of d).owing) = ap length owing in
+    let made : Happened d (Stepped (step_made d.table place call)) e = record {
+      makes = record { may = releases.may; step_is = refl; table = refl; shards = refl; next = λ k. refl; dry = release_dry d at o };
+      room = release_room d.room e.room at o (omega arith);
+      first = refl;
+      start = refl;
+    } in
     record {
       shown_is = shown_by e ((shown_of d).events ++ Stepped (release_of place at o) ∷ []) (after_first (shown_of d).owing) events_are owing;
       done = subst (λ (x : Step). Happened d (Stepped x) e) releases.step_is made;

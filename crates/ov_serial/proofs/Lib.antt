@@ -5,6 +5,8 @@ pub mod Calling
 pub mod Steps
 pub mod Marking
 pub mod Giving
+pub mod Pairs
+pub mod New
 pub mod Since
 pub mod Rows
 pub mod Resting

@@ -115,7 +115,7 @@ replay_done d shard place key id at sound names looked shard_is =
     let was : d.start + steps_marked d.marks ≡ length d.table.journal = sound.marked in
     record {
       shown_is = shown_by e ((shown_of d).events ++ Judged j ∷ []) (shown_of d).owing events refl;
-      done = record { makes = record { table = refl; shard = shard; shard_is = shard_is; judgement = refl; shards = refl; next = λ k. refl }; first = refl; start = refl };
+      done = record { makes = record { table = refl; shard = shard; shard_is = shard_is; judgement = refl; shards = refl; next = λ k. refl }; room = refl; first = refl; start = refl };
       sound = record {
         told = sound.told;
         eight = length_set d.shards (key % 8) _ ∙ sound.eight;
@@ -223,7 +223,7 @@ draw_done d key sound names looked =
     let was : d.start + steps_marked d.marks ≡ length d.table.journal = sound.marked in
     record {
       shown_is = shown_by e ((shown_of d).events ++ Drew key r ∷ []) (shown_of d).owing events refl;
-      done = record { makes = record { table = refl; shards = refl; draws = draws }; first = refl; start = refl };
+      done = record { makes = record { table = refl; shards = refl; draws = draws }; room = omega arith; first = refl; start = refl };
       sound = record {
         told = sound.told;
         eight = sound.eight;
@@ -261,3 +261,14 @@ read_next (y ∷ xs) (suc k) x d below is = read_next xs k x d (omega arith) is
 
 pub one_less : (now was : ℕ) → now + 1 ≡ was → now ≡ was - 1
 one_less now was is = omega arith
+
+pub read_shard : (xs : List History) (k : ℕ) (x : History) → k < length xs → x ≡ slice_index_or xs k x → slice_get xs k ≡ Some x
+read_shard [] k x below is = absurd (omega arith)
+read_shard (y ∷ xs) zero x below is = ap (λ s. Some s) (sym is)
+read_shard (y ∷ xs) (suc k) x below is = read_shard xs k x (omega arith) is
+
+pub below_eight : (d : Serial) (key : ℕ) → Sound d → key % 8 < length d.shards
+below_eight d key sound = rw sound.eight (omega arith)
+
+pub room_left : (now was all : ℕ) → now + 1 ≡ was → was ≡ all → now ≡ all - 1
+room_left now was all is same = omega arith

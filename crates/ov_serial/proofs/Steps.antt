@@ -26,7 +26,7 @@ use Rattle.ov_model.specs.declared.reply.Settled.{Settled}
 use Rattle.ov_model.specs.Tables.{Peer, Table, Material, key_serials}
 use Rattle.ov_model.specs.Step.{Outcome, step, act_step, command_step, tx_look, rx_look, sent, settle, spend}
 use Rattle.ov_model.specs.Events.{Event, Stepped, Step}
-use Rattle.ov_model.specs.Path.{SomeOwed, removed, spent_taken, spent_reply}
+use Rattle.ov_model.specs.Path.{IsLook, SomeOwed, removed, spent_taken, spent_reply}
 use Rattle.ov_model.specs.Next.{see, stand_of, looked, is_killed}
 use Rattle.ov_model.specs.Keys.{key_of}
 use Rattle.ov_model.proofs.Removing.{serials, some_all, Joins, command_joins, Keeps, tx_look_keeps, rx_look_keeps, sent_keeps, settle_keeps, Spends, spend_spends}
@@ -36,6 +36,7 @@ use Rattle.ov_table.proofs.Told.{told_step}
 use Rattle.ov_serial.specs.Desks.{Serial, shown_of, next_of, waiting, owing_of, material_of_desk, killed_by, Ready, HoldSound, IsHeldSound, Sound, step_made, after_step}
 use Rattle.ov_serial.proofs.Acts.{Holds, Looks, tx_looks, rx_looks, sent_done, SettledReply, settle_says, Few, command_few}
 use Rattle.ov_serial.proofs.KeysKept.{key_of_more, key_below}
+use Rattle.ov_serial.proofs.Looking.{HoldReady, look_ready}
 use Rattle.ov_serial.proofs.Calling.{no_peers, NoneWaits, none_waits, nothing_waits, seen, MaySpend, may_spend, may_call, made_now, CallDone, step_done, events_stepped, material_grows}
 
 -- ---- a desk that is free
@@ -78,7 +79,7 @@ command_done d place at c r sound free reply_is =
     (rw reply_is (all_owed o.taken (removed o.reply)))
     tt owing is_few
     (subst (λ (h : Holding). IsHeldSound (after_step d place call r) h (stand_of (shown_of (after_step d place call r)).events)) (sym free.0) tt)
-    tt
+    tt refl
 
 -- ---- look-ups
 
@@ -169,7 +170,7 @@ tx_done d place at a r sound free reply_is installed =
     (look_owing d.hold d.table.now o.after r free.0 was is_now fits)
     (few_looked d.hold d.table.now o.after r free.0 was is_now fits)
     (rw stand_is (look_held e d.hold r free.0 fits (λ v is. let m = installed v is in look_sound d e o v m.0 none looks keeps (sym reply_is ∙ is) refl told (made_now d place call r sound reply_is) m.1)))
-    tt
+    tt refl
 
 rx_done : (d : Serial) (place : Place) (at : ℕ) (id : PeerId) (key_id : KeyId) (from : Transport) (r : Reply) → Sound d → IsFree (shown_of d) → r ≡ (step d.table.now (record { at = at; act = act.RxLook id key_id from })).reply → HoldsInstalled (after_step d place (record { at = at; act = act.RxLook id key_id from }) r) r → CallDone d place (record { at = at; act = act.RxLook id key_id from }) r
 rx_done d place at id key_id from r sound free reply_is installed =
@@ -189,7 +190,7 @@ rx_done d place at id key_id from r sound free reply_is installed =
     (look_owing d.hold d.table.now o.after r free.0 was is_now fits)
     (few_looked d.hold d.table.now o.after r free.0 was is_now fits)
     (rw stand_is (look_held e d.hold r free.0 fits (λ v is. let m = installed v is in look_sound d e o v m.0 none looks keeps (sym reply_is ∙ is) refl told (made_now d place call r sound reply_is) m.1)))
-    tt
+    tt refl
 
 -- ---- the uses of a hold
 
@@ -292,7 +293,7 @@ sent_step_done d place at peer inner outer ping r sound may reply_is =
     step_done d place call r [] sound (may_call d call.act sound may) reply_is (reply_is ∙ sent_done d.table.now now peer inner outer ping) (keeps.taken, refl) tt
     (held_owing d.hold d.table.now o.after peer may.0) (held_few d.hold o.after peer may.0)
     (rw (stand_after d place call r sound) (sent_held d e d.hold (stand_of (shown_of d).events) (step_made d.table place call) peer inner outer ping refl sound.held may.0 may.1 (keeps_stays d place call r keeps)))
-    tt
+    tt refl
 
 is_settled : (r : Reply) → SettledReply r → IsSettledReply r
 is_settled r s = rw s.is tt
@@ -308,7 +309,7 @@ settle_step_done d place at peer from k inner outer r sound may reply_is =
     step_done d place call r [] sound (may_call d call.act sound may) reply_is (rw reply_is (is_settled o.reply says)) (keeps.taken, refl) tt
     (held_owing d.hold d.table.now o.after peer may.0) (held_few d.hold o.after peer may.0)
     (rw (stand_after d place call r sound) (settle_held d e d.hold (stand_of (shown_of d).events) (step_made d.table place call) peer says.settled says.is sound.held may.0 may.1 (keeps_stays d place call r keeps)))
-    tt
+    tt refl
 
 is_spend : (killed : Bool) → IsSpendReply (spent_reply killed)
 is_spend true = tt
@@ -332,19 +333,23 @@ spend_step_done d place at peer key r sound may reply_is =
     step_done d place call r [] sound (may_call d call.act sound may) reply_is (rw (reply_is, s.reply_is) (is_spend s.killed)) (taken, refl) tt
     (held_owing d.hold d.table.now o.after peer may.0) (held_few d.hold o.after peer may.0)
     (rw (stand_after d place call r sound) (spend_held d e d.hold (stand_of (shown_of d).events) (step_made d.table place call) peer key s.killed refl s.reply_is sound.held may.0 may.1 may.2 stays))
-    m.dry
+    m.dry refl
 
 -- ---- any step that a line may ask for
 
-abbrev pub LookInstalled : Serial → Place → Call → Reply → Type 0
-LookInstalled d place call r = HoldsInstalled (after_step d place call r) r
-
-pub call_done : (d : Serial) (place : Place) (at : ℕ) (a : Act) (r : Reply) → Sound d → MayCall (shown_of d) a → r ≡ (step d.table.now (record { at = at; act = a })).reply → LookInstalled d place (record { at = at; act = a }) r → CallDone d place (record { at = at; act = a }) r
+pub call_done : (d : Serial) (place : Place) (at : ℕ) (a : Act) (r : Reply) → Sound d → MayCall (shown_of d) a → r ≡ (step d.table.now (record { at = at; act = a })).reply → (IsLook a → HoldsInstalled (after_step d place (record { at = at; act = a }) r) r) → CallDone d place (record { at = at; act = a }) r
 call_done d place at (act.Do c) r sound may reply_is installed = command_done d place at c r sound may reply_is
-call_done d place at (act.TxLook a) r sound may reply_is installed = tx_done d place at a r sound may reply_is installed
-call_done d place at (act.RxLook id key_id from) r sound may reply_is installed = rx_done d place at id key_id from r sound may reply_is installed
+call_done d place at (act.TxLook a) r sound may reply_is installed = tx_done d place at a r sound may reply_is (installed tt)
+call_done d place at (act.RxLook id key_id from) r sound may reply_is installed = rx_done d place at id key_id from r sound may reply_is (installed tt)
 call_done d place at (act.Sent peer inner outer ping) r sound may reply_is installed = sent_step_done d place at peer inner outer ping r sound may reply_is
 call_done d place at (act.Settle peer from k inner outer) r sound may reply_is installed = settle_step_done d place at peer from k inner outer r sound may reply_is
 call_done d place at (act.Spend peer key) r sound may reply_is installed = spend_step_done d place at peer key r sound may reply_is
 call_done d place at (act.Released peer) r sound may reply_is installed = absurd may
 call_done d place at (act.KeyReleased key) r sound may reply_is installed = absurd may
+
+-- The same of a call, with what the journal installed.
+pub any_call_done : (d : Serial) (place : Place) (call : Call) (r : Reply) → Sound d → MayCall (shown_of d) call.act → r ≡ (step d.table.now call).reply → CallDone d place call r
+any_call_done d place call r sound may reply_is =
+    call_done d place call.at call.act r sound may reply_is (λ look v is.
+        let ready : HoldReady (stepped d.table place call) v = look_ready d.table place call v look (sym reply_is ∙ is) sound.told in
+        (ready.material, ready.installed))

@@ -1,7 +1,7 @@
 -- The desk at which one line after another stands: what it keeps, what it shows of the present line, and
 -- what an event makes of it.
-use Rattle.std.specs.Prelude.{ℕ, ◌+◌, ◌-◌, ◌%◌, nat_lt, if◌then◌else◌, None, ◌≡◌, ◌≤◌, ◌<◌, ⊤, List, [], ◌∷◌, ◌++◌, length, map, drop, get_or, slice_get, slice_set, Bool, true, Option, Some}
-use Rattle.std.specs.List.{list_any, range_with_len}
+use Rattle.std.specs.Prelude.{ℕ, zero, suc, ◌+◌, ◌-◌, ◌%◌, nat_lt, if◌then◌else◌, None, ◌≡◌, ◌≤◌, ◌<◌, ⊤, List, [], ◌∷◌, ◌++◌, length, map, drop, get_or, slice_get, slice_set, Bool, true, false, Option, Some}
+use Rattle.std.specs.List.{list_any}
 use Rattle.ov_base.specs.declared.address.Addr.{Addr}
 use Rattle.ov_model.specs.declared.place.Place.{Place}
 use Rattle.ov_model.specs.declared.act.Act.{Act}
@@ -28,7 +28,7 @@ use Rattle.ov_replay.specs.History.{History}
 use Rattle.ov_model.specs.declared.reply.Reply.{Reply}
 use Rattle.ov_model.proofs.KeysTaken.{key_made_by}
 use Rattle.ov_path.specs.Desks.{Shown, Holding, NoHold, Both, PeerLeft, held_after, peer_left}
-use Rattle.ov_table.specs.Recorded.{Recorded, stepped, entry_of, IsTold, first_waiting, no_steps}
+use Rattle.ov_table.specs.Recorded.{Recorded, stepped, entry_of, IsTold, first_waiting, no_steps, is_release}
 use Rattle.ov_serial.specs.declared.holding.Hold.{Hold}
 use Rattle.ov_serial.specs.declared.holding.Hold.TheVariants as hold
 use Rattle.ov_serial.specs.declared.past.Mark.{Mark}
@@ -157,8 +157,21 @@ Makes (Drew key r) d e = HasDrawn d e key r
 Makes (GaveKey key g) d e = HasGiven d e
 Makes (GavePeer peer g) d e = HasGiven d e
 
+-- The room for marks: a release, a draw and a give-back use one; another step and a replay step take room anew.
+abbrev pub RoomAfter : Bool → (was now : ℕ) → Type 0
+RoomAfter true was now = now + 1 ≡ was
+RoomAfter false was now = now ≡ 8
+
+abbrev pub RoomGoes : Event → (was now : ℕ) → Type 0
+RoomGoes (Stepped s) was now = RoomAfter (is_release s.entry.call.act) was now
+RoomGoes (Judged j) was now = now ≡ 8
+RoomGoes (Drew key r) was now = now + 1 ≡ was
+RoomGoes (GaveKey key g) was now = now + 1 ≡ was
+RoomGoes (GavePeer peer g) was now = now + 1 ≡ was
+
 pub record Happened (d : Serial) (event : Event) (e : Serial) : Type 0 where
   pub makes : Makes event d e
+  pub room : RoomGoes event d.room e.room
   pub first : e.first ≡ d.first
   pub start : e.start ≡ d.start
 
@@ -233,8 +246,12 @@ abbrev pub after_begin : Serial → Serial
 after_begin d = record d { marks = []; start = length d.table.journal }
 
 -- The desk before any step.
+abbrev pub shards_to : ℕ → List History
+shards_to zero = []
+shards_to (suc n) = shards_to n ++ record { number = n; entries = [] } ∷ []
+
 abbrev pub new_shards : List History
-new_shards = map (λ k. record { number = k; entries = [] }) (range_with_len 0 8)
+new_shards = shards_to 8
 
 abbrev pub new_desk : ℕ → Serial
 new_desk first = record { table = no_steps; shards = new_shards; first = first; next = []; marks = []; room = 0; start = 0; hold = NoHold }

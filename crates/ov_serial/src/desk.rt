@@ -6,6 +6,7 @@ ghost use Rattle.std.specs.Prelude.{◌≡◌, [], IfOk, OnOk};
 ghost use Rattle.ov_model.specs.Keys.{key_of};
 ghost use Rattle.ov_path.specs.Desks.{NoHold};
 ghost use Rattle.ov_serial.specs.Desks.{Serial, new_desk, after_begin, shown_of};
+ghost use Rattle.ov_serial.specs.Desks as spec;
 
 use crate::counters::{count_key, drawn, following};
 use crate::holding::Hold;
@@ -56,10 +57,7 @@ impl SerialDesk {
     pub fn new(alloc: Global, first: u32) -> Result<SerialDesk, Memory>
         ensures { IfOk result (λ d. d ≡ new_desk first) }
     {
-        let mut shards = Vec::new(alloc);
-        for number in 0..SHARDS {
-            shards.push(Shard::new(alloc, number))?;
-        }
+        let shards = new_shards(alloc)?;
         Ok(SerialDesk {
             table: Table::new(alloc),
             shards,
@@ -130,10 +128,7 @@ impl Desk for SerialDesk {
     }
 
     fn give_back_key(&mut self, key: u32) -> Given {
-        let given = match self.table.waiting() {
-            Some(_) => Given::Last,
-            None => Given::More,
-        };
+        let given = last_where(self.table.waiting());
         self.hold = self.hold.without_key();
         self.past.push(Mark::GaveKey(key, given));
         given
@@ -153,11 +148,8 @@ impl Desk for SerialDesk {
     }
 
     fn release(&mut self, place: Place, at: u32, owed: Owed) {
-        let act = match owed {
-            Owed::Peer(peer) => Act::Released(peer),
-            Owed::Key(key) => Act::KeyReleased(key),
-        };
-        let Ok(_reply) = self.table.step(place, &Call { at, act }) else {
+        let call = release_call(at, owed);
+        let Ok(_reply) = self.table.step(place, &call) else {
             unreachable!();
         };
         self.past.push(Mark::Stepped);
@@ -166,4 +158,41 @@ impl Desk for SerialDesk {
     fn via(&self, addr: Addr) -> Addr {
         addr
     }
+}
+
+/// Whether the hold that was given back was the last: something waits to be let go.
+fn last_where(waiting: Option<Owed>) -> Given
+    ensures { result ≡ spec.given_where waiting }
+{
+    match waiting {
+        Some(_) => Given::Last,
+        None => Given::More,
+    }
+}
+
+/// The call that makes a release.
+fn release_call(at: u32, owed: Owed) -> Call
+    ensures { result ≡ spec.release_call at owed }
+{
+    match owed {
+        Owed::Peer(peer) => Call {
+            at,
+            act: Act::Released(peer),
+        },
+        Owed::Key(key) => Call {
+            at,
+            act: Act::KeyReleased(key),
+        },
+    }
+}
+
+/// The shards before any step.
+fn new_shards(alloc: Global) -> Result<Vec<Shard>, Memory>
+    ensures { IfOk result (λ shards. shards.items ≡ spec.new_shards) }
+{
+    let mut shards = Vec::new(alloc);
+    for number in 0..SHARDS {
+        shards.push(Shard::new(alloc, number))?;
+    }
+    Ok(shards)
 }

@@ -1,25 +1,74 @@
-use Rattle.std.proofs.Common.{rules, ◌≡◌, [], IfOk, OnOk, ℕ, ◌+◌, ◌-◌, ◌*◌, ◌<◌, ◌≤◌, length, ◌/◌, ◌%◌, Bool, true, false, nat_eq, nat_lt, List, ◌∷◌, ◌++◌, slice_index_or, slice_set, bit_and, bit_or, Fits, w8, w32, w64, Bor, MutBor}
-use Rattle.ov_model.specs.Keys.{key_of}
-use Rattle.ov_path.specs.Desks.{NoHold}
-use Rattle.ov_serial.specs.Desks.{Serial, new_desk, after_begin, shown_of, material_of_desk, itself, Happened}
+-- A release.
+use Rattle.std.proofs.Common.{◌≡◌, ◌<◌, ◌%◌, ◌-◌, ℕ, sym, refl, subst, ◌∙◌, ap, slice_set, List, [], ◌∷◌, ◌++◌, arith, true}
+use Rattle.ov_serial.specs.declared.past.Mark.TheVariants as mark
+use Rattle.ov_serial.specs.contracts.desk.SerialDesk.{the_view}
+use Rattle.std.specs.Prelude.{Some}
+use Rattle.ov_model.specs.Step.{may_act}
+use Rattle.ov_model.specs.Events.{Event, Stepped, release_of}
+use Rattle.ov_path.specs.Desks.{Shown, first_owed, after_first, Grows}
+use Rattle.ov_table.specs.Recorded.{stepped}
+use Rattle.ov_serial.specs.Desks.{Serial, Sound, Happened, shown_of, material_of_desk, release_call, after_release}
+use Rattle.ov_serial.proofs.KeysKept.{key_of_more}
+use Rattle.ov_serial.proofs.Marking.{MarkDone, same_desk, one_less}
+use Rattle.ov_serial.proofs.Giving.{release_may, release_done}
 use Rattle.ov_serial.proofs.desk.SerialDeskDesk.release.Goals as goal
 
--- src/desk.rt:160:26
+abbrev was : (c : goal.Joined-reply) → Serial
+was c = the_view c.self.inside
+
+abbrev now : (c : goal.Joined-reply) → Serial
+now c = record {
+  table = c.step.new.self;
+  shards = (was c).shards;
+  first = (was c).first;
+  next = (was c).next;
+  marks = c.push.new.self.marks;
+  room = c.push.new.self.room;
+  start = (was c).start;
+  hold = (was c).hold;
+}
+
+sound_was : (c : goal.Joined-reply) → Sound (was c)
+sound_was c = c.self.invariant
+
+first : (c : goal.Joined-reply) → first_owed (shown_of (was c)).owing ≡ Some c.args.owed
+first c = subst (λ (d : Serial). first_owed (shown_of d).owing ≡ Some c.args.owed) (sym c.self.view_is) c.requires.first
+
+done : (c : goal.Joined-reply) → MarkDone (was c) (after_release (was c) c.args.place c.args.at c.args.owed) (Stepped (release_of c.args.place c.args.at c.args.owed)) (was c).hold (after_first (shown_of (was c)).owing)
+done c = release_done (was c) c.args.place c.args.at c.args.owed (sound_was c) (first c)
+
+table_is : (c : goal.Joined-reply) → c.step.new.self ≡ stepped (was c).table c.args.place (release_call c.args.at c.args.owed)
+table_is c = c.in-Ok.ensures.stepped ∙ ap (λ call. stepped (was c).table c.args.place call) c.release_call-call.ensures
+
+is : (c : goal.Joined-reply) → now c ≡ after_release (was c) c.args.place c.args.at c.args.owed
+is c = same_desk (now c) (after_release (was c) c.args.place c.args.at c.args.owed) (table_is c) refl refl refl c.push.ensures.marks
+    (one_less c.push.new.self.room (was c).room c.push.ensures.room) refl refl
+
 pub step-requires : goal.step-requires
-step-requires c = ?
+step-requires c =
+    let d : Serial = the_view c.self.inside in
+    let owes : first_owed (shown_of d).owing ≡ Some c.args.owed = subst (λ (x : Serial). first_owed (shown_of x).owing ≡ Some c.args.owed) (sym c.self.view_is) c.requires.first in
+    let may : may_act d.table.now (release_call c.args.at c.args.owed).act ≡ true = release_may d c.args.at c.args.owed c.args.place c.self.invariant owes in
+    rw c.release_call-call.ensures may
 
--- src/desk.rt:155:5
 pub invariant_of-self : goal.invariant_of-self
-invariant_of-self c = ?
+invariant_of-self c = subst Sound (sym (is c)) (done c).sound
 
--- src/desk.rt:155:5
+left : (d : Serial) → Event → Shown
+left d event = record { events = (shown_of d).events ++ event ∷ []; hold = d.hold; owing = after_first (shown_of d).owing }
+
 pub returns-clause-event : goal.returns-clause-event
-returns-clause-event c = ?
+unfolding left
+returns-clause-event c =
+    let shown : shown_of (now c) ≡ left (was c) (Stepped (release_of c.args.place c.args.at c.args.owed)) = ap shown_of (is c) ∙ (done c).shown_is in
+    subst (λ (d : Serial). shown_of (now c) ≡ left d (Stepped (release_of c.args.place c.args.at c.args.owed))) c.self.view_is shown
 
--- src/desk.rt:155:5
 pub returns-clause-done : goal.returns-clause-done
-returns-clause-done c = ?
+returns-clause-done c =
+    let made : Happened (was c) (Stepped (release_of c.args.place c.args.at c.args.owed)) (now c) = subst (λ (e : Serial). Happened (was c) (Stepped (release_of c.args.place c.args.at c.args.owed)) e) (sym (is c)) (done c).done in
+    subst (λ (d : Serial). Happened d (Stepped (release_of c.args.place c.args.at c.args.owed)) (now c)) c.self.view_is made
 
--- src/desk.rt:155:5
 pub returns-clause-grows : goal.returns-clause-grows
-returns-clause-grows c = ?
+returns-clause-grows c =
+    let grows : Grows (material_of_desk (was c)) (material_of_desk (now c)) = λ key m k. rw (table_is c) (key_of_more (was c).table.journal _ key m k) in
+    subst (λ (d : Serial). Grows (material_of_desk d) (material_of_desk (now c))) c.self.view_is grows

@@ -1,17 +1,72 @@
-use Rattle.std.proofs.Common.{rules, ◌≡◌, [], IfOk, OnOk, ℕ, ◌+◌, ◌-◌, ◌*◌, ◌<◌, ◌≤◌, length, ◌/◌, ◌%◌, Bool, true, false, nat_eq, nat_lt, List, ◌∷◌, ◌++◌, slice_index_or, slice_set, bit_and, bit_or, Fits, w8, w32, w64, Bor, MutBor}
-use Rattle.ov_model.specs.Keys.{key_of}
-use Rattle.ov_path.specs.Desks.{NoHold}
-use Rattle.ov_serial.specs.Desks.{Serial, new_desk, after_begin, shown_of, material_of_desk, itself, Happened}
+-- A replay step.
+use Rattle.std.proofs.Common.{◌≡◌, ◌<◌, ◌%◌, ◌-◌, ℕ, sym, refl, subst, ◌∙◌, ap, slice_set, List, [], ◌∷◌, ◌++◌, arith}
+use Rattle.ov_serial.specs.declared.past.Mark.TheVariants as mark
+use Rattle.ov_serial.specs.contracts.desk.SerialDesk.{the_view}
+use Rattle.std.specs.Prelude.{Some, slice_get, get_or}
+use Rattle.ov_model.specs.declared.replay.Verdict.{Verdict}
+use Rattle.ov_serial.specs.Pasts.{Past}
+use Rattle.ov_model.specs.Events.{Event, Judged, Judgement}
+use Rattle.ov_model.specs.Next.{stand_of}
+use Rattle.ov_model.specs.Replay.{judged}
+use Rattle.ov_replay.specs.History.{History}
+use Rattle.ov_path.specs.Desks.{Shown, HoldsKey, IsLooked, with_event}
+use Rattle.ov_serial.specs.Desks.{Serial, Sound, Happened, shown_of, judgement_at, after_judged}
+use Rattle.ov_serial.proofs.Marking.{MarkDone, replay_done, same_desk, read_shard, below_eight, room_left}
 use Rattle.ov_serial.proofs.desk.SerialDeskDesk.replay.Goals as goal
 
--- src/desk.rt:110:5
+abbrev was : (c : goal.After-push) → Serial
+was c = the_view c.self.inside
+
+abbrev now : (c : goal.After-push) → Serial
+now c = record {
+  table = (was c).table;
+  shards = slice_set (was c).shards (c.args.key % 8) c.step.new.self;
+  first = (was c).first;
+  next = (was c).next;
+  marks = c.push.new.self.marks;
+  room = c.push.new.self.room;
+  start = (was c).start;
+  hold = (was c).hold;
+}
+
+sound_was : (c : goal.After-push) → Sound (was c)
+sound_was c = c.self.invariant
+
+shard_is : (c : goal.After-push) → slice_get (was c).shards (c.args.key % 8) ≡ Some c.index_mut.result.now
+shard_is c = read_shard (was c).shards (c.args.key % 8) c.index_mut.result.now (below_eight (was c) c.args.key (sound_was c)) c.index_mut.ensures.value
+
+done : (c : goal.After-push) → MarkDone (was c) (after_judged (was c) c.index_mut.result.now c.args.place c.args.key c.args.id c.args.at) (Judged (judgement_at c.index_mut.result.now c.args.place c.args.key c.args.id c.args.at)) (was c).hold (shown_of (was c)).owing
+done c = replay_done (was c) c.index_mut.result.now c.args.place c.args.key c.args.id c.args.at (sound_was c)
+    (subst (λ (d : Serial). HoldsKey d.hold c.args.key) (sym c.self.view_is) c.requires.held)
+    (subst (λ (d : Serial). IsLooked (stand_of (shown_of d).events)) (sym c.self.view_is) c.requires.looked) (shard_is c)
+
+verdict_is : (c : goal.After-push) → c.in_ok-verdict.verdict ≡ (judged c.index_mut.result.now.entries c.args.place c.args.key c.args.id c.args.at).verdict
+verdict_is c = c.in_ok-verdict.ensures.verdict
+
+-- The judgement with a verdict.
+judgement : (c : goal.After-push) → Verdict → Judgement
+judgement c v = record { place = c.args.place; key = c.args.key; id = c.args.id; at = c.args.at; verdict = v }
+
+is : (c : goal.After-push) → now c ≡ after_judged (was c) c.index_mut.result.now c.args.place c.args.key c.args.id c.args.at
+is c = same_desk (now c) (after_judged (was c) c.index_mut.result.now c.args.place c.args.key c.args.id c.args.at) refl
+    (ap (λ s. slice_set (was c).shards (c.args.key % 8) s) c.in_ok-verdict.ensures.ok) refl refl
+    (c.push.ensures.marks ∙ ap (λ (r : Past). r.marks ++ mark.Judged (record { place = c.args.place; key = c.args.key; id = c.args.id; at = c.args.at; verdict = c.in_ok-verdict.verdict }) ∷ []) c.in_ok-reserve.ensures.ok
+      ∙ ap (λ v. (was c).marks ++ mark.Judged (record { place = c.args.place; key = c.args.key; id = c.args.id; at = c.args.at; verdict = v }) ∷ []) (verdict_is c))
+    (room_left c.push.new.self.room c.reserve.new.self.room 9 c.push.ensures.room (ap (λ (r : Past). r.room) c.in_ok-reserve.ensures.ok)) refl refl
+
 pub invariant_of-self-2 : goal.invariant_of-self-2
-invariant_of-self-2 c = ?
+invariant_of-self-2 c = subst Sound (sym (is c)) (done c).sound
 
--- src/desk.rt:110:5
 pub returns-clause-ok : goal.returns-clause-ok
-returns-clause-ok c = ?
+unfolding judgement
+returns-clause-ok c =
+    let shown : shown_of (now c) ≡ with_event (shown_of (was c)) (Judged (judgement c c.in_ok-verdict.verdict)) =
+    ap shown_of (is c) ∙ (done c).shown_is ∙ ap (λ v. with_event (shown_of (was c)) (Judged (judgement c v))) (sym (verdict_is c)) in
+    subst (λ (d : Serial). shown_of (now c) ≡ with_event (shown_of d) (Judged (judgement c c.in_ok-verdict.verdict))) c.self.view_is shown
 
--- src/desk.rt:110:5
 pub returns-clause-done : goal.returns-clause-done
-returns-clause-done c = ?
+unfolding judgement
+returns-clause-done c =
+    let first : Happened (was c) (Judged (judgement c (judged c.index_mut.result.now.entries c.args.place c.args.key c.args.id c.args.at).verdict)) (now c) = subst (λ (e : Serial). Happened (was c) (Judged (judgement c (judged c.index_mut.result.now.entries c.args.place c.args.key c.args.id c.args.at).verdict)) e) (sym (is c)) (done c).done in
+    let made : Happened (was c) (Judged (judgement c c.in_ok-verdict.verdict)) (now c) = subst (λ v. Happened (was c) (Judged (judgement c v)) (now c)) (sym (verdict_is c)) first in
+    subst (λ (d : Serial). Happened d (Judged (judgement c c.in_ok-verdict.verdict)) (now c)) c.self.view_is made

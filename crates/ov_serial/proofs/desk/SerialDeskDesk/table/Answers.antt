@@ -1,17 +1,67 @@
-use Rattle.std.proofs.Common.{rules, ◌≡◌, [], IfOk, OnOk, ℕ, ◌+◌, ◌-◌, ◌*◌, ◌<◌, ◌≤◌, length, ◌/◌, ◌%◌, Bool, true, false, nat_eq, nat_lt, List, ◌∷◌, ◌++◌, slice_index_or, slice_set, bit_and, bit_or, Fits, w8, w32, w64, Bor, MutBor}
-use Rattle.ov_model.specs.Keys.{key_of}
-use Rattle.ov_path.specs.Desks.{NoHold}
-use Rattle.ov_serial.specs.Desks.{Serial, new_desk, after_begin, shown_of, material_of_desk, itself, Happened}
+-- A step of the table.
+use Rattle.std.proofs.Common.{◌≡◌, ℕ, sym, refl, subst, ◌∙◌, ap, List, [], ◌∷◌, ◌++◌}
+use Rattle.std.specs.Prelude.{map}
+use Rattle.ov_model.specs.declared.reply.Reply.{Reply}
+use Rattle.ov_model.specs.declared.place.Place.{Place}
+use Rattle.ov_model.specs.declared.act.Call.{Call}
+use Rattle.ov_model.specs.Tables.{Material}
+use Rattle.ov_model.proofs.KeysTaken.{key_made_by}
+use Rattle.ov_path.specs.Desks.{Shown, MayCall, Called, Grows}
+use Rattle.ov_serial.specs.declared.past.Mark.TheVariants as mark
+use Rattle.ov_serial.specs.contracts.desk.SerialDesk.{the_view}
+use Rattle.ov_serial.specs.Pasts.{Past}
+use Rattle.ov_serial.specs.Desks.{Serial, Sound, Happened, shown_of, material_of_desk, holding, after_step}
+use Rattle.ov_serial.proofs.Marking.{same_desk, room_left}
+use Rattle.ov_serial.proofs.Calling.{CallDone}
+use Rattle.ov_serial.proofs.Steps.{any_call_done}
 use Rattle.ov_serial.proofs.desk.SerialDeskDesk.table.Goals as goal
 
--- src/desk.rt:96:5
+abbrev was : (c : goal.After-push) → Serial
+was c = the_view c.self.inside
+
+abbrev now : (c : goal.After-push) → Serial
+now c = record {
+  table = c.step.new.self;
+  shards = (was c).shards;
+  first = (was c).first;
+  next = c.count_key.new.next.items;
+  marks = c.push.new.self.marks;
+  room = c.push.new.self.room;
+  start = (was c).start;
+  hold = holding c.after-self-inside.result;
+}
+
+sound_was : (c : goal.After-push) → Sound (was c)
+sound_was c = c.self.invariant
+
+reply : (c : goal.After-push) → Reply
+reply c = c.in_ok-reply.reply
+
+done : (c : goal.After-push) → CallDone (was c) c.args.place c.args.call.now c.in_ok-reply.reply
+done c = any_call_done (was c) c.args.place c.args.call.now c.in_ok-reply.reply (sound_was c)
+    (subst (λ (d : Serial). MayCall (shown_of d) c.args.call.now.act) (sym c.self.view_is) c.requires.may) c.in_ok-reply.ensures.reply
+
+is : (c : goal.After-push) → now c ≡ after_step (was c) c.args.place c.args.call.now c.in_ok-reply.reply
+is c = same_desk (now c) (after_step (was c) c.args.place c.args.call.now c.in_ok-reply.reply) c.in_ok-reply.ensures.stepped refl refl
+    (c.count_key.ensures ∙ ap (λ ns. ns ++ map (λ _. (was c).first) (key_made_by c.args.call.now.act c.in_ok-reply.reply)) c.in_ok-reserve.ensures.items)
+    (c.push.ensures.marks ∙ ap (λ (p : Past). p.marks ++ mark.Stepped ∷ []) c.in_ok-reserve-2.ensures.ok)
+    (room_left c.push.new.self.room c.reserve-2.new.self.room 9 c.push.ensures.room (ap (λ (p : Past). p.room) c.in_ok-reserve-2.ensures.ok)) refl c.after-self-inside.ensures
+
 pub invariant_of-self-2 : goal.invariant_of-self-2
-invariant_of-self-2 c = ?
+invariant_of-self-2 c = subst Sound (sym (is c)) (done c).sound
 
--- src/desk.rt:96:5
 pub returns-clause-ok : goal.returns-clause-ok
-returns-clause-ok c = ?
+returns-clause-ok c =
+    let place : Place = c.args.place in
+    let call : Call = c.args.call.now in
+    let r : Reply = c.in_ok-reply.reply in
+    let first : Called (λ x f. Happened (was c) x f) (shown_of (was c)) place call r (material_of_desk (now c)) (shown_of (now c)) (now c) =
+    subst (λ (e : Serial). Called (λ x f. Happened (was c) x f) (shown_of (was c)) place call r (material_of_desk e) (shown_of e) e) (sym (is c)) (done c).called in
+    let second : Called (λ x f. Happened c.args.self.now x f) (shown_of c.args.self.now) place call r (material_of_desk (now c)) (shown_of (now c)) (now c) =
+    subst (λ (d : Serial). Called (λ x f. Happened d x f) (shown_of d) place call r (material_of_desk (now c)) (shown_of (now c)) (now c)) c.self.view_is first in
+    second
 
--- src/desk.rt:96:5
 pub returns-clause-grows : goal.returns-clause-grows
-returns-clause-grows c = ?
+returns-clause-grows c =
+    let grows : Grows (material_of_desk (was c)) (material_of_desk (now c)) = subst (λ (e : Serial). Grows (material_of_desk (was c)) (material_of_desk e)) (sym (is c)) (done c).grows in
+    subst (λ (d : Serial). Grows (material_of_desk d) (material_of_desk (now c))) c.self.view_is grows
