@@ -14,3 +14,5 @@ pub mod Reporting
 pub mod KeySlots
 pub mod Installed
 pub mod Looking
+pub mod Turning
+pub mod Ending

@@ -26,7 +26,7 @@ use Rattle.ov_replay.specs.History.{History}
 use Rattle.ov_path.specs.Desks.{NoHold}
 use Rattle.ov_table.specs.Recorded.{Recorded, IsTold}
 use Rattle.ov_serial.specs.Desks.{Serial, next_of, histories, itself, waiting, owing_of, shown_of, Sound}
-use Rattle.ov_serial.specs.Lines.{CountsAll, Rested}
+use Rattle.ov_serial.specs.Lines.{CountsAll, Rested, AllJudge}
 
 -- The log of one lane with all its lines answered, and its report.
 abbrev pub one_log : List Line → List Answer → LaneLog
@@ -106,10 +106,6 @@ other_rises lane (r ∷ rs) within = (λ own. absurd (let below = within.0 in om
 rises : (lane : ℕ) (shards : List (List ReplayEntry)) → AllByRecursion (AllByRecursion (λ r. r.place.lane < 1)) shards → AllByRecursion (LinesRise 0) shards → AllByRecursion (LinesRise lane) shards
 rises zero shards within rise = rise
 rises (suc lane) shards within rise = all_weaker (AllByRecursion (λ r. r.place.lane < 1)) (LinesRise (suc lane)) (λ rs w. other_rises lane rs w) shards within
-
--- Each shard judges its steps.
-abbrev pub AllJudge : List (List ReplayEntry) → Type 0
-AllJudge shards = (k : ℕ) (rs : List ReplayEntry) → slice_get shards k ≡ Some rs → ShardJudges k rs
 
 -- The histories of shards that are numbered by their places.
 judge_at : (s : Option History) (k : ℕ) (rs : List ReplayEntry) → option_map (λ (h : History). h.entries) s ≡ Some rs → ((h : History) → s ≡ Some h → h.number ≡ k) → ((h : History) → s ≡ Some h → ShardJudges h.number h.entries) → ShardJudges k rs

@@ -1,3 +1,4 @@
 pub mod Pasts
 pub mod Desks
 pub mod Lines
+pub mod Running

@@ -1,5 +1,5 @@
 -- What a line has made of the desk since it began, and how the desk stands between two lines.
-use Rattle.std.specs.Prelude.{ℕ, ◌+◌, ◌%◌, ◌≡◌, ◌≤◌, ◌<◌, List, [], ◌∷◌, ◌++◌, map, true}
+use Rattle.std.specs.Prelude.{ℕ, ◌+◌, ◌%◌, ◌≡◌, ◌≤◌, ◌<◌, List, [], ◌∷◌, ◌++◌, map, true, slice_get, Some}
 use Rattle.std.specs.List.{AllByRecursion, list_any}
 use Rattle.ov_model.specs.declared.entry.Entry.{Entry}
 use Rattle.ov_model.specs.declared.line.Line.{Line}
@@ -8,6 +8,7 @@ use Rattle.ov_model.specs.declared.replay.ReplayEntry.{ReplayEntry}
 use Rattle.ov_model.specs.Events.{Event, Step, Judgement, steps_after, steps_of, steps_in, judgements_in, draws_in, judgement_of}
 use Rattle.ov_model.specs.Runs.{table_after}
 use Rattle.ov_model.specs.Keys.{key_of, spends, ids_under, ids_of}
+use Rattle.ov_model.specs.Replay.{ShardJudges}
 use Rattle.ov_model.specs.Legal.{LaneMeets, LinesRise}
 use Rattle.ov_model.proofs.Lanes.{judged_in}
 use Rattle.ov_model.proofs.Counting.{counted}
@@ -70,3 +71,7 @@ pub record Rested (d : Serial) (lines : List Line) (answers : List Answer) : Typ
   pub judged_within : AllByRecursion (AllByRecursion (λ r. r.place.lane < 1)) (histories d.shards)
   pub rise : AllByRecursion (LinesRise 0) (histories d.shards)
   pub counts : (key : ℕ) → CountsAll d answers key
+
+-- Each shard's steps are those that the replay rule judges so.
+abbrev pub AllJudge : List (List ReplayEntry) → Type 0
+AllJudge shards = (k : ℕ) (rs : List ReplayEntry) → slice_get shards k ≡ Some rs → ShardJudges k rs

@@ -2,18 +2,23 @@
 //! counters, and what the present line holds. What waits to be let go is owed as soon as the line holds no
 //! key.
 
-ghost use Rattle.std.specs.Prelude.{◌≡◌, [], IfOk, OnOk};
+ghost use Rattle.std.specs.Prelude.{ℕ, ◌≡◌, [], IfOk, OnOk, Some, slice_get};
+ghost use Rattle.ov_model.specs.Replay.{ShardJudges};
+ghost use Rattle.ov_replay.specs.History.{History};
+ghost use Rattle.ov_serial.specs.Lines.{AllJudge};
 ghost use Rattle.ov_model.specs.Keys.{key_of};
 ghost use Rattle.ov_path.specs.Desks.{NoHold};
-ghost use Rattle.ov_serial.specs.Desks.{Serial, new_desk, after_begin, shown_of};
+ghost use Rattle.ov_serial.specs.Desks.{Serial, Sound, new_desk, after_begin, shown_of, histories};
 ghost use Rattle.ov_serial.specs.Desks as spec;
 
 use crate::counters::{count_key, drawn, following};
 use crate::holding::Hold;
 use crate::past::{Judged, Mark, Past};
-use ov_base::{Addr, Memory};
+use ov_base::{Addr, ListOf, Memory};
 use ov_keys::KeyPair;
-use ov_model::{Act, Call, Drawn, Given, Owed, Place, Reply, Verdict};
+use ov_model::{
+    Act, Call, Drawn, Entry, Given, Note, Owed, Place, ReplayEntry, Reply, Verdict,
+};
 use ov_path::Desk;
 use ov_replay::Shard;
 use ov_table::Table;
@@ -73,10 +78,38 @@ impl SerialDesk {
     pub fn begin(&mut self)
         requires free { self.old.hold ≡ NoHold }
         requires owes { (shown_of self.old).owing ≡ [] }
-        ensures { self.new ≡ after_begin self.old }
+        ensures begun { self.new ≡ after_begin self.old }
+        ensures shown { shown_of self.new ≡ record { events = []; hold = NoHold; owing = [] } }
     {
         self.past.clear();
         self.start = self.table.journal().len();
+    }
+}
+
+impl SerialDesk {
+    /// What the desk keeps true, for whoever runs lines at it.
+    pub fn keeps(&self)
+        ensures { Sound self.now }
+    {
+        let _ = &self.table;
+    }
+}
+
+impl SerialDesk {
+    /// Moves out the journal, the notes and the histories of the eight shards.
+    pub fn finish(
+        self,
+        alloc: Global,
+    ) -> Result<(ListOf<Entry>, ListOf<Note>, ListOf<ListOf<ReplayEntry>>), Memory>
+        ensures journal { IfOk result (λ r. r.0 ≡ self.table.journal) }
+        ensures notes { IfOk result (λ r. r.1 ≡ self.table.notes) }
+        ensures shards { IfOk result (λ r. r.2 ≡ histories self.shards) }
+        ensures judged { IfOk result (λ r. AllJudge r.2) }
+    {
+        let SerialDesk { table, shards, .. } = self;
+        let histories = finish_all(alloc, shards)?;
+        let (journal, notes) = table.finish();
+        Ok((journal, notes, histories))
     }
 }
 
@@ -195,4 +228,19 @@ fn new_shards(alloc: Global) -> Result<Vec<Shard>, Memory>
         shards.push(Shard::new(alloc, number))?;
     }
     Ok(shards)
+}
+
+/// Closes the shards: their histories, in their order.
+fn finish_all(
+    alloc: Global,
+    shards: Vec<Shard>,
+) -> Result<ListOf<ListOf<ReplayEntry>>, Memory>
+    ensures histories { IfOk result (λ histories. histories ≡ spec.histories shards.items) }
+    ensures judged { IfOk result (λ histories. (k : ℕ) (s : History) → slice_get shards.items k ≡ Some s → ShardJudges s.number s.entries) }
+{
+    let mut histories = Vec::new(alloc);
+    for shard in shards {
+        histories.push(shard.finish())?;
+    }
+    Ok(ListOf::of_vec(histories))
 }

@@ -4,6 +4,9 @@
 mod counters;
 mod desk;
 mod holding;
+mod lines;
 mod past;
+mod session;
 
 pub use desk::SerialDesk;
+pub use session::run_script;

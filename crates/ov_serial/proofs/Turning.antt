@@ -1,0 +1,164 @@
+-- One turn of a line at the desk: what happened since it began goes on, and fewer turns are left.
+use Rattle.std.proofs.Common.{ℕ, ◌≡◌, ◌≢◌, ◌+◌, ◌*◌, ◌≤◌, ◌<◌, List, [], ◌∷◌, ◌++◌, length, length-append, refl, sym, ◌∙◌, ap, subst, arith, Bool, true, false}
+use Rattle.std.specs.Prelude.{Option, Some, None}
+use Rattle.ov_base.specs.declared.address.Addr.{Addr}
+use Rattle.ov_model.specs.declared.place.Place.{Place}
+use Rattle.ov_model.specs.declared.act.Act.TheVariants as act
+use Rattle.ov_model.specs.declared.draw.Drawn.{Drawn}
+use Rattle.ov_model.specs.declared.draw.Drawn.TheVariants as drawn
+use Rattle.ov_model.specs.declared.hold.Owed.{Owed}
+use Rattle.ov_model.specs.declared.hold.Owed.TheVariants as owed
+use Rattle.ov_model.specs.declared.reply.HoldView.{HoldView}
+use Rattle.ov_model.specs.declared.reply.Reply.TheVariants as reply
+use Rattle.ov_model.specs.declared.replay.Verdict.{Verdict}
+use Rattle.ov_model.specs.declared.replay.Verdict.TheVariants as verdict
+use Rattle.ov_model.specs.declared.line.Line.{Line}
+use Rattle.ov_model.specs.declared.line.Deed.{Deed}
+use Rattle.ov_model.specs.declared.line.Deed.TheVariants as deed
+use Rattle.ov_model.specs.declared.answer.Answer.{Answer}
+use Rattle.ov_model.specs.declared.stand.Use.{Use}
+use Rattle.ov_model.specs.declared.stand.Stand.{Stand}
+use Rattle.ov_model.specs.declared.stand.Stand.TheVariants as stand
+use Rattle.ov_model.specs.Tables.{Material}
+use Rattle.ov_model.specs.Packets.{opened}
+use Rattle.ov_model.specs.Events.{Event, Stepped, Judged, Drew, GaveKey, GavePeer, Step}
+use Rattle.ov_model.specs.Next.{Ask, Table, Replay, Draw, GiveKey, GivePeer, Nil, Over as over, request, asks, asks_held, asks_open, asks_opened, asks_drawn, next, next_owing, release_act, see, stepped, stand_of, judged_as}
+use Rattle.ov_path.specs.Walks.{Walking, IsOpen, Made, AtJudged, Opens, Trail}
+use Rattle.ov_table.specs.Recorded.{is_release}
+use Rattle.ov_serial.specs.Desks.{Serial, Happened, RoomAfter, RoomGoes, shown_of, material_of_desk, itself}
+use Rattle.ov_serial.specs.Running.{stages_left, turns_left}
+use Rattle.ov_serial.proofs.Calling.{seen}
+
+-- ---- a stage later
+
+pub never_over : (e : Event) → request e ≡ over → ⊥
+never_over (Stepped s) is = cc
+never_over (Judged j) is = cc
+never_over (Drew key r) is = cc
+never_over (GaveKey key g) is = cc
+never_over (GavePeer peer g) is = cc
+
+never_empty : (es : List Event) (e : Event) → es ++ e ∷ [] ≡ [] → ⊥
+never_empty [] e is = cc
+never_empty (x ∷ es) e is = cc
+
+-- With a hold a line asks for a draw, a replay step or a give-back of the key.
+held_asks : (m : Option Material) (h : HoldView) (d : Deed) (s : Step) → Table s.entry.call.act ≡ asks_held m h d → ⊥
+held_asks m h (deed.Tx packet) s is = cc
+held_asks None h (deed.Rx from bytes) s is = cc
+held_asks (Some m) h (deed.Rx from bytes) s is =
+    elim (opened m.decrypt bytes) as (λ o. Table s.entry.call.act ≡ asks_opened h bytes o → ⊥) [ Some p ↦ λ e. cc | None ↦ λ e. cc ] is
+held_asks m h (deed.Netlink n) s is = cc
+
+held_asks_peer : (m : Option Material) (h : HoldView) (d : Deed) (peer : ℕ) → GivePeer peer ≡ asks_held m h d → ⊥
+held_asks_peer m h (deed.Tx packet) peer is = cc
+held_asks_peer None h (deed.Rx from bytes) peer is = cc
+held_asks_peer (Some m) h (deed.Rx from bytes) peer is =
+    elim (opened m.decrypt bytes) as (λ o. GivePeer peer ≡ asks_opened h bytes o → ⊥) [ Some p ↦ λ e. cc | None ↦ λ e. cc ] is
+held_asks_peer m h (deed.Netlink n) peer is = cc
+
+judged_stage : (h : HoldView) (v : Verdict) → stages_left (judged_as h v) + 1 ≤ 4
+judged_stage h verdict.Accept = omega arith
+judged_stage h verdict.Zero = omega arith
+judged_stage h verdict.Old = omega arith
+judged_stage h verdict.Below = omega arith
+judged_stage h verdict.Again = omega arith
+
+pub looked_later : (m : Option Material) (h : HoldView) (d : Deed) (e : Event) → request e ≡ asks_held m h d → stages_left (see (stand.Looked h) e) + 1 ≤ 4
+looked_later m h d (Stepped s) is = absurd (held_asks m h d s is)
+looked_later m h d (Judged j) is = judged_stage h j.verdict
+looked_later m h d (Drew key r) is = omega arith
+looked_later m h d (GaveKey key g) is = omega arith
+looked_later m h d (GavePeer peer g) is = absurd (held_asks_peer m h d peer is)
+
+pub drawn_asks : (h : HoldView) (r : Drawn) (d : Deed) (e : Event) → request e ≡ asks_drawn h r d → stages_left (see (stand.Drew h r) e) + 1 ≤ 3
+drawn_asks h (drawn.Id n) (deed.Tx packet) (Stepped s) is =
+    let same : s.entry.call.act ≡ act.Sent h.peer (length packet) (length packet + 24) false = (let e : Table s.entry.call.act ≡ Table (act.Sent h.peer (length packet) (length packet + 24) false) = is in cc) in
+    rw same (omega arith)
+drawn_asks h drawn.Spent (deed.Tx packet) (Stepped s) is =
+    let same : s.entry.call.act ≡ act.Spend h.peer h.key = (let e : Table s.entry.call.act ≡ Table (act.Spend h.peer h.key) = is in cc) in
+    rw same (omega arith)
+drawn_asks h (drawn.Id n) (deed.Tx packet) (Judged j) is = absurd (cc)
+drawn_asks h (drawn.Id n) (deed.Tx packet) (Drew key r) is = absurd (cc)
+drawn_asks h (drawn.Id n) (deed.Tx packet) (GaveKey key g) is = absurd (cc)
+drawn_asks h (drawn.Id n) (deed.Tx packet) (GavePeer peer g) is = absurd (cc)
+drawn_asks h drawn.Spent (deed.Tx packet) (Judged j) is = absurd (cc)
+drawn_asks h drawn.Spent (deed.Tx packet) (Drew key r) is = absurd (cc)
+drawn_asks h drawn.Spent (deed.Tx packet) (GaveKey key g) is = absurd (cc)
+drawn_asks h drawn.Spent (deed.Tx packet) (GavePeer peer g) is = absurd (cc)
+drawn_asks h (drawn.Id n) (deed.Rx from bytes) e is = absurd (never_over e is)
+drawn_asks h drawn.Spent (deed.Rx from bytes) e is = absurd (never_over e is)
+drawn_asks h (drawn.Id n) (deed.Netlink m) e is = absurd (never_over e is)
+drawn_asks h drawn.Spent (deed.Netlink m) e is = absurd (never_over e is)
+
+pub used_later : (h : HoldView) (u : Use) (e : Event) → request e ≡ GiveKey h.key → stages_left (see (stand.Used h u) e) + 1 ≤ 2
+used_later h u (Stepped s) is = absurd (cc)
+used_later h u (Judged j) is = absurd (cc)
+used_later h u (Drew key r) is = absurd (cc)
+used_later h u (GaveKey key g) is = omega arith
+used_later h u (GavePeer peer g) is = absurd (cc)
+
+pub given_later : (h : HoldView) (u : Use) (e : Event) → request e ≡ GivePeer h.peer → stages_left (see (stand.KeyGiven h u) e) + 1 ≤ 1
+given_later h u (Stepped s) is = absurd (cc)
+given_later h u (Judged j) is = absurd (cc)
+given_later h u (Drew key r) is = absurd (cc)
+given_later h u (GaveKey key g) is = absurd (cc)
+given_later h u (GavePeer peer g) is = omega arith
+
+-- A line that goes on isn't at its beginning any more.
+pub fresh_later : (material : ℕ → Option Material) (place : Place) (line : Line) (es : List Event) (e : Event) (os : List Owed) (a : Option Answer) (t : Stand) → Trail material itself place line t (es ++ e ∷ []) os a → stages_left t + 1 ≤ 5
+fresh_later material place line es e os a stand.Fresh trail = absurd (never_empty es e trail.none)
+fresh_later material place line es e os a stand.Replied trail = omega arith
+fresh_later material place line es e os a stand.Missed trail = omega arith
+fresh_later material place line es e os a (stand.Looked h) trail = omega arith
+fresh_later material place line es e os a (stand.Drew h d) trail = omega arith
+fresh_later material place line es e os a (stand.Judged h) trail = omega arith
+fresh_later material place line es e os a (stand.Used h u) trail = omega arith
+fresh_later material place line es e os a (stand.KeyGiven h u) trail = omega arith
+fresh_later material place line es e os a (stand.PeerGiven h u) trail = omega arith
+
+-- After a judgement a line has two events.
+opens_one : (place : Place) (at : ℕ) (h : HoldView) (d : Deed) (m : Material) (later : List Event) (packet : List ℕ) → Opens place at h d m later packet → length later ≡ 1
+opens_one place at h (deed.Rx from bytes) m later packet opens = ap length opens.1
+opens_one place at h (deed.Tx p) m later packet opens = absurd opens
+opens_one place at h (deed.Netlink n) m later packet opens = absurd opens
+
+judged_two : (material : ℕ → Option Material) (place : Place) (line : Line) (h : HoldView) (es : List Event) (os : List Owed) (a : Option Answer) → AtJudged material itself place line h es os a → length es ≡ 2
+judged_two material place line h es os a at =
+    let one : length at.later ≡ 1 = opens_one place line.at h line.deed at.m at.later at.packet at.opens in
+    ap length at.held.events ∙ rw one refl
+
+judged_stays : (h : HoldView) (e : Event) (v : HoldView) → see (stand.Judged h) e ≡ stand.Looked v → ⊥
+judged_stays h (Stepped s) v is = elim s.entry.reply as (λ r. stepped (stand.Judged h) s.entry.call.act r ≡ stand.Looked v → ⊥) [
+  | reply.Made n ↦ λ e. cc | reply.Done ↦ λ e. cc | reply.Peer p ↦ λ e. cc | reply.Removed ns ↦ λ e. cc | reply.Hold x ↦ λ e. cc | reply.NoPeer ↦ λ e. cc | reply.NoKey ↦ λ e. cc
+  | reply.Settled x ↦ λ e. cc | reply.Killed ↦ λ e. cc | reply.AlreadyGone ↦ λ e. cc | reply.Released n ↦ λ e. cc | reply.KeyReleased n ↦ λ e. cc | reply.Refused x ↦ λ e. cc
+] is
+judged_stays h (Judged j) v is = cc
+judged_stays h (Drew key d) v is = cc
+judged_stays h (GaveKey key g) v is = cc
+judged_stays h (GavePeer peer g) v is = cc
+
+judged_draws : (h : HoldView) (e : Event) (v : HoldView) (d : Drawn) → see (stand.Judged h) e ≡ stand.Drew v d → ⊥
+judged_draws h (Stepped s) v d is = elim s.entry.reply as (λ r. stepped (stand.Judged h) s.entry.call.act r ≡ stand.Drew v d → ⊥) [
+  | reply.Made n ↦ λ e. cc | reply.Done ↦ λ e. cc | reply.Peer p ↦ λ e. cc | reply.Removed ns ↦ λ e. cc | reply.Hold x ↦ λ e. cc | reply.NoPeer ↦ λ e. cc | reply.NoKey ↦ λ e. cc
+  | reply.Settled x ↦ λ e. cc | reply.Killed ↦ λ e. cc | reply.AlreadyGone ↦ λ e. cc | reply.Released n ↦ λ e. cc | reply.KeyReleased n ↦ λ e. cc | reply.Refused x ↦ λ e. cc
+] is
+judged_draws h (Judged j) v d is = cc
+judged_draws h (Drew key r) v d is = cc
+judged_draws h (GaveKey key g) v d is = cc
+judged_draws h (GavePeer peer g) v d is = cc
+
+pub judged_later : (material old : ℕ → Option Material) (place : Place) (line : Line) (h : HoldView) (es : List Event) (e : Event) (os ps : List Owed) (a b : Option Answer) (t : Stand) → AtJudged old itself place line h es ps b → see (stand.Judged h) e ≡ t → Trail material itself place line t (es ++ e ∷ []) os a → stages_left t + 1 ≤ 3
+judged_later material old place line h es e os ps a b (stand.Judged v) was is trail =
+    let two = judged_two old place line h es ps b was in
+    let also = judged_two material place line v (es ++ e ∷ []) os a trail in
+    let more = length-append es (e ∷ []) in
+    absurd (omega arith)
+judged_later material old place line h es e os ps a b stand.Fresh was is trail = absurd (never_empty es e trail.none)
+judged_later material old place line h es e os ps a b stand.Replied was is trail = omega arith
+judged_later material old place line h es e os ps a b stand.Missed was is trail = omega arith
+judged_later material old place line h es e os ps a b (stand.Looked v) was is trail = absurd (judged_stays h e v is)
+judged_later material old place line h es e os ps a b (stand.Drew v d) was is trail = absurd (judged_draws h e v d is)
+judged_later material old place line h es e os ps a b (stand.Used v u) was is trail = omega arith
+judged_later material old place line h es e os ps a b (stand.KeyGiven v u) was is trail = omega arith
+judged_later material old place line h es e os ps a b (stand.PeerGiven v u) was is trail = omega arith
