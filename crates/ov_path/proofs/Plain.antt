@@ -1,13 +1,10 @@
 -- What each call makes of the plain desk of the tests.
-use Rattle.std.proofs.Common.{rules, ℕ, ◌≡◌, ◌+◌, ◌≤◌, ◌<◌, List, [], ◌∷◌, ◌++◌, refl, sym, ◌∙◌, ap, subst, arith, Bool, true, false}
-use Rattle.std.specs.Prelude.{Option, Some, None, ⊤}
-use Rattle.ov_model.specs.declared.place.Place.{Place}
-use Rattle.ov_model.specs.declared.act.Call.{Call}
+use Rattle.std.proofs.Common.{ℕ, ◌≡◌, ◌+◌, ◌≤◌, List, [], ◌∷◌, ◌++◌, refl, sym, ◌∙◌, ap, subst, arith, Bool, true, false}
+use Rattle.std.specs.Prelude.{Option, Some, None}
 use Rattle.ov_model.specs.declared.act.Act.{Act}
 use Rattle.ov_model.specs.declared.act.Act.TheVariants as act
 use Rattle.ov_model.specs.declared.command.Command.{Command}
 use Rattle.ov_model.specs.declared.draw.Drawn.{Drawn}
-use Rattle.ov_model.specs.declared.hold.Given.{Given}
 use Rattle.ov_model.specs.declared.hold.Owed.{Owed}
 use Rattle.ov_model.specs.declared.hold.Owed.TheVariants as owed
 use Rattle.ov_model.specs.declared.reply.HoldView.{HoldView}
@@ -17,10 +14,10 @@ use Rattle.ov_model.specs.declared.stand.Stand.{Stand}
 use Rattle.ov_model.specs.declared.stand.Stand.TheVariants as stand
 use Rattle.ov_model.specs.Tables.{Material}
 use Rattle.ov_model.specs.Events.{Event, Drew}
-use Rattle.ov_model.specs.Path.{SomeOf, none, kept, passed, SomeOwed, removed}
+use Rattle.ov_model.specs.Path.{SomeOf, none, kept, passed, removed}
 use Rattle.ov_model.specs.Next.{stand_of, drew}
-use Rattle.ov_path.specs.Desks.{Holding, NoHold, Both, PeerLeft, HoldsKey, LeftPeer, IsLooked, Joins, IsReplyOf, HasMaterial, Called, stepped_as, held_after, peer_left, first_owed, after_first}
-use Rattle.ov_path.specs.Plain.{Kept, Sound, Joined, shown_of, one_key, holding_at, listed, taken_by, need, owes}
+use Rattle.ov_path.specs.Desks.{Holding, NoHold, Both, PeerLeft, HoldsKey, IsLooked, Joins, HasMaterial}
+use Rattle.ov_path.specs.Plain.{Kept, Sound, Joined, one_key, listed, taken_by, need, owes}
 use Rattle.ov_path.proofs.Going.{seen}
 
 -- ---- what is owed

@@ -1,4 +1,3 @@
-use Rattle.std.proofs.Common.{◌≡◌}
 use Rattle.ov_path.specs.Walks.{Walking, IsOpen}
 use Rattle.ov_path.specs.Plain.{shown_of, one_key, hop_or}
 use Rattle.ov_path.proofs.tests.walks.run.Given as goal

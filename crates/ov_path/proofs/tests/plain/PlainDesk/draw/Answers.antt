@@ -1,4 +1,4 @@
-use Rattle.std.proofs.Common.{◌≡◌, ◌++◌, ◌∷◌, [], ap, sym, subst, ◌∙◌}
+use Rattle.std.proofs.Common.{◌++◌, ◌∷◌, [], ap, sym, subst, ◌∙◌}
 use Rattle.ov_model.specs.Next.{stand_of}
 use Rattle.ov_path.specs.Desks.{HoldsKey, IsLooked}
 use Rattle.ov_path.specs.Plain.{Kept}
