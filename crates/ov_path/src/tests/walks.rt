@@ -293,11 +293,38 @@ fn a_source_is_settled_by_its_next_hop(rt: HostRuntime) -> Result<(), Fail> {
 }
 
 #[test]
-fn a_refused_message_makes_no_event(rt: HostRuntime) -> Result<(), Fail> {
+fn a_line_that_is_answered_at_once_makes_no_event(rt: HostRuntime) -> Result<(), Fail> {
     let mut desk = desk_at(&rt, rt.alloc(), 1);
     let line = netlink(NlOp::PeerGet, None);
     let answer = Answer::Reply(Reply::Refused(Errno::Invalid));
     runs_as(&rt, rt.alloc(), &mut desk, &line, answer, &[])?;
+    let line = tx(rt.alloc(), &[0x20])?;
+    let answer = Answer::Dropped(DropCause::NotIp);
+    runs_as(&rt, rt.alloc(), &mut desk, &line, answer, &[])?;
+    let line = rx(rt.alloc(), &[0x4a, 0, 0, 5, 0, 0, 0, 1])?;
+    let answer = Answer::Dropped(DropCause::Short);
+    runs_as(&rt, rt.alloc(), &mut desk, &line, answer, &[])?;
+    let line = rx(rt.alloc(), &[0x32, 0, 0, 5])?;
+    let answer = Answer::Dropped(DropCause::DataV1);
+    runs_as(&rt, rt.alloc(), &mut desk, &line, answer, &[])?;
+    let line = rx(rt.alloc(), &[0x22, 0, 0, 5])?;
+    runs_as(&rt, rt.alloc(), &mut desk, &line, Answer::Control, &[])?;
+    Ok(())
+}
+
+#[test]
+fn a_datagram_of_nobody_is_looked_up_and_dropped(rt: HostRuntime) -> Result<(), Fail> {
+    let mut desk = desk_at(&rt, rt.alloc(), 1);
+    let mut other_peer = DATAGRAM;
+    other_peer[3] = 6;
+    let line = rx(rt.alloc(), &other_peer)?;
+    let answer = Answer::Dropped(DropCause::NoPeer);
+    runs_as(&rt, rt.alloc(), &mut desk, &line, answer, &[Seen::RxLook])?;
+    let mut other_key = DATAGRAM;
+    other_key[0] = 0x4b;
+    let line = rx(rt.alloc(), &other_key)?;
+    let answer = Answer::Dropped(DropCause::NoKey);
+    runs_as(&rt, rt.alloc(), &mut desk, &line, answer, &[Seen::RxLook])?;
     Ok(())
 }
 
