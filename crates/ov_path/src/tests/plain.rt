@@ -234,8 +234,7 @@ impl Desk for Plain {
         Ok(reply)
     }
 
-    fn pair(&mut self, key: u32) -> Option<KeyPair> {
-        let _one_for_all = key;
+    fn pair(&mut self, _key: u32) -> Option<KeyPair> {
         Some(self.pair)
     }
 
