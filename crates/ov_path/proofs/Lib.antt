@@ -2,3 +2,4 @@ pub mod Beginning
 pub mod Ending
 pub mod Going
 pub mod Opening
+pub mod Plain

@@ -1,5 +1,5 @@
 -- What a line is asked to have, and what its parts say.
-use Rattle.std.specs.Prelude.{ℕ, ⊤, ◌≤◌, length, List, Bool, true, false, Option, Some, None}
+use Rattle.std.specs.Prelude.{ℕ, ⊤, List, Bool, true, false, Option, Some, None}
 use Rattle.ov_model.specs.declared.act.Act.TheVariants as act
 use Rattle.ov_model.specs.declared.line.Deed.{Deed}
 use Rattle.ov_model.specs.declared.line.Deed.TheVariants as deed

@@ -1,3 +1,7 @@
+mod plain;
+mod told;
+mod walks;
+
 use crate::open::open;
 use crate::seal::seal;
 use ov_base::{Addr, Memory, Octets, Transport};

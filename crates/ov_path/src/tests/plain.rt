@@ -1,0 +1,379 @@
+// A second desk, over plain lists: one peer, one key, and the events of its line as they came.
+
+ghost use Rattle.std.specs.Prelude.{◌≡◌, ◌<◌, ◌++◌, None, [], IfOk, vec_len};
+ghost use Rattle.std.specs.Vec.{vec_capacity};
+ghost use Rattle.ov_model.specs.declared.hold.Given.TheVariants.{Last};
+ghost use Rattle.ov_path.specs.Desks.{NoHold, held_after, look_holds, peer_left, owed_if, IsReplyOf, HasMaterial};
+ghost use Rattle.ov_path.specs.Plain.{Joined, one_key, listed, shown_of};
+
+use super::told::{Past, Told};
+use crate::desk::Desk;
+use ov_base::{Addr, ListOf, Memory};
+use ov_keys::KeyPair;
+use ov_model::{
+    Act, Call, Command, Drawn, Given, HoldView, InnerKind, Owed, Place, Reply, Settled, Verdict,
+};
+use std::alloc::Global;
+use std::marker::Model;
+
+/// The room that a call takes: its own event, and nine that may come before the next that can take room.
+const MOST_EVENTS: usize = 10;
+
+/// What the line holds.
+#[derive(Drop)]
+pub struct Hold {
+    view: Option<HoldView>,
+    // Whether the key was given back.
+    left: bool,
+}
+
+impl Model for Hold {
+    ghost use Rattle.ov_path.specs.Desks.{Holding};
+    ghost use Rattle.ov_path.specs.Plain.{holding_at};
+
+    ghost Value = { Holding };
+
+    ghost view = { λ h. holding_at h.view h.left };
+}
+
+impl Hold {
+    fn none() -> Hold
+        ensures { result ≡ NoHold }
+    {
+        Hold {
+            view: None,
+            left: false,
+        }
+    }
+
+    /// A step that found a peer and its key holds them.
+    fn step(&mut self, act: &Act, reply: &Reply)
+        ensures { self.new ≡ held_after self.old act.now reply.now }
+    {
+        match act {
+            Act::TxLook(_) => self.look(reply),
+            Act::RxLook { .. } => self.look(reply),
+            Act::Do(_) => {}
+            Act::Sent { .. } => {}
+            Act::Settle { .. } => {}
+            Act::Spend { .. } => {}
+            Act::Released(_) => {}
+            Act::KeyReleased(_) => {}
+        }
+    }
+
+    fn look(&mut self, reply: &Reply)
+        ensures { self.new ≡ look_holds self.old reply.now }
+    {
+        if let Reply::Hold(view) = reply {
+            self.view = Some(*view);
+            self.left = false;
+        }
+    }
+
+    /// The key is given back.
+    fn leave(&mut self)
+        ensures { self.new ≡ peer_left self.old }
+    {
+        self.left = true;
+    }
+}
+
+/// The desk.
+#[derive(Drop)]
+pub struct Plain {
+    alloc: Global,
+    peer: HoldView,
+    // The peer's address inside the tunnel.
+    vpn: Addr,
+    pair: KeyPair,
+    // The next hop of every address, where one is given.
+    hop: Option<Addr>,
+    // Whether the give-backs are the last ones.
+    last: bool,
+    // What the counter gives next.
+    next: u64,
+    accepted: Vec<u32>,
+    past: Past,
+    hold: Hold,
+    drew: bool,
+    owing: Option<Owed>,
+}
+
+impl Model for Plain {
+    ghost use Rattle.ov_path.specs.Plain.{Kept, Sound};
+
+    ghost Value = { Kept };
+
+    ghost view = { λ p. record { events = p.past.events; room = p.past.room; hold = p.hold; drew = p.drew; owing = p.owing; pair = p.pair; hop = p.hop } };
+
+    ghost invariant = { λ p. Sound (record { events = p.past.events; room = p.past.room; hold = p.hold; drew = p.drew; owing = p.owing; pair = p.pair; hop = p.hop }) };
+}
+
+impl Plain {
+    /// A desk with one peer, which has this address inside the tunnel, and one key. `next` is what the
+    /// counter gives first.
+    pub fn new(alloc: Global, peer: HoldView, vpn: Addr, pair: KeyPair, next: u64) -> Plain
+        ensures { shown_of result ≡ record { events = []; hold = NoHold; owing = [] } }
+    {
+        Plain {
+            alloc,
+            peer,
+            vpn,
+            pair,
+            hop: None,
+            last: false,
+            next,
+            accepted: Vec::new(alloc),
+            past: Past::new(alloc),
+            hold: Hold::none(),
+            drew: false,
+            owing: None,
+        }
+    }
+
+    /// Every address has this next hop from here on.
+    pub fn route(&mut self, hop: Addr) {
+        self.hop = Some(hop);
+    }
+
+    /// The give-backs are the last ones from here on.
+    pub fn be_last(&mut self) {
+        self.last = true;
+    }
+
+    /// Begins a line: nothing happened yet, and nothing is held or owed.
+    pub fn begin(&mut self)
+        ensures { shown_of self.new ≡ record { events = []; hold = NoHold; owing = [] } }
+    {
+        self.past.clear();
+        self.hold = Hold::none();
+        self.drew = false;
+        self.owing = None;
+    }
+
+    /// The events of the line.
+    pub fn events(&self) -> &[Told] {
+        self.past.items()
+    }
+
+    /// Takes one step of the table, whose reply fits it.
+    fn decide(&self, act: &Act) -> Result<Reply, Memory>
+        ensures fits { IfOk result (λ r. IsReplyOf act.now r) }
+        ensures has { IfOk result (λ r. HasMaterial (one_key self.now.pair) act.now r) }
+    {
+        match act {
+            Act::Do(command) => self.command(command),
+            Act::TxLook(addr) => {
+                if addr.is(self.vpn) {
+                    return Ok(Reply::Hold(self.peer));
+                }
+                Ok(Reply::NoPeer)
+            }
+            Act::RxLook { id, key_id, .. } => {
+                if *id != self.peer.id {
+                    return Ok(Reply::NoPeer);
+                }
+                if *key_id != self.peer.key_id {
+                    return Ok(Reply::NoKey);
+                }
+                Ok(Reply::Hold(self.peer))
+            }
+            Act::Sent { .. } => Ok(Reply::Done),
+            Act::Settle { kind, .. } => Ok(Reply::Settled(self.settled(*kind))),
+            Act::Spend { .. } => Ok(Reply::Killed),
+            Act::Released(peer) => Ok(Reply::Released(*peer)),
+            Act::KeyReleased(key) => Ok(Reply::KeyReleased(*key)),
+        }
+    }
+
+    /// A removal has the one peer's serial, and every other command is done.
+    fn command(&self, command: &Command) -> Result<Reply, Memory> {
+        if let Command::Remove(_, _) = command {
+            let mut serials = Vec::new(self.alloc);
+            serials.push(self.peer.peer)?;
+            return Ok(Reply::Removed(ListOf::of_vec(serials)));
+        }
+        Ok(Reply::Done)
+    }
+
+    fn settled(&self, kind: InnerKind) -> Settled {
+        match kind {
+            InnerKind::From(addr) => {
+                if addr.is(self.vpn) {
+                    return Settled::Deliver;
+                }
+                Settled::NotOwner
+            }
+            InnerKind::Ping => Settled::Ping,
+            InnerKind::NotIp => Settled::NotIp,
+        }
+    }
+}
+
+impl Desk for Plain {
+    ghost use Rattle.std.specs.Prelude.{⊤};
+    ghost use Rattle.ov_path.specs.Plain.{shown_of, one_key, hop_or};
+
+    ghost shown = { λ p. shown_of p };
+
+    ghost material = { λ p. one_key p.pair };
+
+    ghost via = { λ p. hop_or p.hop };
+
+    ghost does = { λ p event q. ⊤ };
+
+    fn table(&mut self, place: Place, call: &Call) -> Result<Reply, Memory> {
+        let reply = self.decide(&call.act)?;
+        let kept = twin(self.alloc, &reply)?;
+        self.past.reserve(MOST_EVENTS)?;
+        self.drew = false;
+        self.hold.step(&call.act, &reply);
+        self.owing = joined(self.owing, &call.act, &reply);
+        self.past.push(Told::stepped(place, call, kept));
+        Ok(reply)
+    }
+
+    fn pair(&mut self, _key: u32) -> Option<KeyPair> {
+        Some(self.pair)
+    }
+
+    fn replay(&mut self, place: Place, key: u32, id: u32, at: u32) -> Result<Verdict, Memory> {
+        self.accepted.reserve(1)?;
+        self.past.reserve(MOST_EVENTS)?;
+        self.drew = false;
+        let verdict = judge(&mut self.accepted, id);
+        self.past.push(Told::judged(place, key, id, at, verdict));
+        Ok(verdict)
+    }
+
+    fn draw(&mut self, key: u32) -> Drawn {
+        let drawn = count(&mut self.next);
+        self.drew = true;
+        self.past.push(Told::drew(key, drawn));
+        drawn
+    }
+
+    fn give_back_key(&mut self, key: u32) -> Given {
+        let given = given(self.last, self.owing);
+        self.owing = owed_after(given, self.owing, Owed::Key(key));
+        self.hold.leave();
+        self.drew = false;
+        self.past.push(Told::gave_key(key, given));
+        given
+    }
+
+    fn give_back(&mut self, peer: u32) -> Given {
+        let given = given(self.last, self.owing);
+        self.owing = owed_after(given, self.owing, Owed::Peer(peer));
+        self.hold = Hold::none();
+        self.drew = false;
+        self.past.push(Told::gave_peer(peer, given));
+        given
+    }
+
+    fn owed(&self) -> Option<Owed> {
+        self.owing
+    }
+
+    fn release(&mut self, place: Place, at: u32, owed: Owed) {
+        self.owing = None;
+        self.drew = false;
+        self.past.push(Told::released(place, at, owed));
+    }
+
+    fn via(&self, addr: Addr) -> Addr {
+        match self.hop {
+            Some(hop) => hop,
+            None => addr,
+        }
+    }
+}
+
+/// A copy of a reply.
+fn twin(alloc: Global, reply: &Reply) -> Result<Reply, Memory>
+    ensures { IfOk result (λ copy. copy ≡ reply.now) }
+{
+    Ok(match reply {
+        Reply::Made(serial) => Reply::Made(*serial),
+        Reply::Done => Reply::Done,
+        Reply::Peer(view) => Reply::Peer(*view),
+        Reply::Removed(serials) => {
+            let serials = Vec::from_slice(alloc, serials.as_slice())?;
+            return Ok(Reply::Removed(ListOf::of_vec(serials)));
+        }
+        Reply::Hold(view) => Reply::Hold(*view),
+        Reply::NoPeer => Reply::NoPeer,
+        Reply::NoKey => Reply::NoKey,
+        Reply::Settled(settled) => Reply::Settled(*settled),
+        Reply::Killed => Reply::Killed,
+        Reply::AlreadyGone => Reply::AlreadyGone,
+        Reply::Released(serial) => Reply::Released(*serial),
+        Reply::KeyReleased(serial) => Reply::KeyReleased(*serial),
+        Reply::Refused(errno) => Reply::Refused(*errno),
+    })
+}
+
+/// What is owed after a step: the first peer that a command removed, where nothing was owed before.
+#[tactic(auto, using(crate::proofs::Plain::nothing_joins, crate::proofs::Plain::first_joins))]
+fn joined(owing: Option<Owed>, act: &Act, reply: &Reply) -> Option<Owed>
+    ensures { Joined act.now reply.now owing result }
+{
+    if let Some(owed) = owing {
+        return Some(owed);
+    }
+    let Act::Do(_) = act else {
+        return None;
+    };
+    let Reply::Removed(serials) = reply else {
+        return None;
+    };
+    match serials.as_slice().split_first() {
+        Some((serial, _)) => Some(Owed::Peer(*serial)),
+        None => None,
+    }
+}
+
+/// A packet id is accepted once.
+fn judge(accepted: &mut Vec<u32>, id: u32) -> Verdict
+    requires { vec_len accepted.old < vec_capacity accepted.old }
+{
+    if id == 0 {
+        return Verdict::Zero;
+    }
+    if accepted.contains(&id) {
+        return Verdict::Again;
+    }
+    accepted.push_reserved(id);
+    Verdict::Accept
+}
+
+/// What the counter gives: 4294967295 is its last id.
+fn count(next: &mut u64) -> Drawn {
+    let Ok(id) = u32::try_from(*next) else {
+        return Drawn::Spent;
+    };
+    *next = u64::from(id) + 1;
+    Drawn::Id(id)
+}
+
+/// What a give-back answers: at most one release is owed at a time.
+fn given(last: bool, owing: Option<Owed>) -> Given
+    ensures { result ≡ Last → owing ≡ None }
+{
+    if owing.is_none() && last {
+        return Given::Last;
+    }
+    Given::More
+}
+
+/// What is owed after a give-back.
+fn owed_after(given: Given, owing: Option<Owed>, owed: Owed) -> Option<Owed>
+    requires { given ≡ Last → owing ≡ None }
+    ensures { listed result ≡ listed owing ++ owed_if given owed }
+{
+    match given {
+        Given::Last => Some(owed),
+        Given::More => owing,
+    }
+}

@@ -1,0 +1,372 @@
+// Lines that run at the plain desk: what they are answered, and their events in order.
+
+ghost use Rattle.std.specs.Prelude.{◌≤◌, length, IfOk};
+ghost use Rattle.ov_model.specs.Sizes.{Fits};
+
+use super::plain::Plain;
+use super::told::{Kind, Told};
+use super::{DATAGRAM, PACKET, held};
+use crate::walk::{Progress, Walk};
+use ov_base::{Addr, Memory, Octets, Transport};
+use ov_model::netlink::NO_ATTRIBUTES;
+use ov_model::{
+    Act, Answer, Deed, Drawn, DropCause, Errno, Given, Line, NlMessage, NlOp, NlPeer, PeerId,
+    Place, Reply, SealedOut, Verdict,
+};
+use std::alloc::Global;
+use std::process::Abort;
+use std::test::Fail;
+
+/// An event by its kind, and what tells one of a kind from another.
+#[derive(Clone, Copy, Debug, PartialEq, Eq)]
+enum Seen {
+    Do,
+    TxLook(Addr),
+    RxLook,
+    Sent,
+    Settle,
+    Spend,
+    Released(u32),
+    KeyReleased(u32),
+    Replay(u32, Verdict),
+    Draw(Drawn),
+    Key(Given),
+    Peer(Given),
+}
+
+fn as_seen(told: &Told) -> Seen {
+    match &told.kind {
+        Kind::Step(entry) => stepped(&entry.call.act),
+        Kind::Replay { id, verdict, .. } => Seen::Replay(*id, *verdict),
+        Kind::Draw(_, drawn) => Seen::Draw(*drawn),
+        Kind::KeyBack(_, given) => Seen::Key(*given),
+        Kind::PeerBack(_, given) => Seen::Peer(*given),
+    }
+}
+
+fn stepped(act: &Act) -> Seen {
+    match act {
+        Act::Do(_) => Seen::Do,
+        Act::TxLook(addr) => Seen::TxLook(*addr),
+        Act::RxLook { .. } => Seen::RxLook,
+        Act::Sent { .. } => Seen::Sent,
+        Act::Settle { .. } => Seen::Settle,
+        Act::Spend { .. } => Seen::Spend,
+        Act::Released(peer) => Seen::Released(*peer),
+        Act::KeyReleased(key) => Seen::KeyReleased(*key),
+    }
+}
+
+/// The events of the line in order.
+fn all_seen(alloc: Global, desk: &Plain) -> Result<Vec<Seen>, Memory> {
+    let mut all = Vec::new(alloc);
+    for told in desk.events() {
+        all.push(as_seen(told))?;
+    }
+    Ok(all)
+}
+
+/// The VPN address of the peer.
+const VPN: Addr = Addr::V4([10, 8, 0, 5]);
+
+/// The peer's remote.
+const REMOTE: Transport = Transport {
+    addr: Addr::V4([192, 0, 2, 1]),
+    port: 1194,
+};
+
+/// An inner packet: an IPv4 header of 20 bytes from 10.8.0.5 to 10.9.9.9.
+const ASTRAY: [u8; 20] = [
+    0x45, 0, 0, 0x14, 0, 0, 0, 0, 0x40, 0x11, 0, 0, 10, 8, 0, 5, 10, 9, 9, 9,
+];
+
+/// A desk whose counter gives `next` first.
+fn desk_at(rt: &impl Abort, alloc: Global, next: u64) -> Plain {
+    let (hold, pair) = held().expect(rt, "ids in range");
+    Plain::new(alloc, hold, VPN, pair, next)
+}
+
+/// A line that sends a packet.
+fn tx(alloc: Global, packet: &[u8]) -> Result<Line, Memory>
+    requires { length packet.now ≤ 65483 }
+    ensures { IfOk result (λ line. Fits line.deed) }
+{
+    Ok(Line {
+        lane: 0,
+        at: 7,
+        deed: Deed::Tx(Octets::of(alloc, packet)?),
+    })
+}
+
+/// A line that receives a datagram from the peer's remote.
+fn rx(alloc: Global, bytes: &[u8]) -> Result<Line, Memory>
+    requires { length bytes.now ≤ 65507 }
+    ensures { IfOk result (λ line. Fits line.deed) }
+{
+    Ok(Line {
+        lane: 0,
+        at: 7,
+        deed: Deed::Rx {
+            from: REMOTE,
+            datagram: Octets::of(alloc, bytes)?,
+        },
+    })
+}
+
+/// A line with a netlink message that names peer 5, or no peer.
+fn netlink(op: NlOp, peer: Option<NlPeer>) -> Line
+    ensures { Fits result.deed }
+{
+    Line {
+        lane: 0,
+        at: 7,
+        deed: Deed::Netlink(NlMessage {
+            op,
+            ifindex: None,
+            peer,
+            keyconf: None,
+        }),
+    }
+}
+
+/// Runs a line to its answer; None where twelve turns didn't reach it.
+fn run(alloc: Global, desk: &mut Plain, line: &Line) -> Result<Option<Answer>, Memory>
+    requires { Fits line.now.deed }
+{
+    desk.begin();
+    let mut walk = Walk::new(Place { lane: 0, line: 0 });
+    for _turn in 0..12 {
+        match walk.turn(alloc, desk, line)? {
+            Progress::More => {}
+            Progress::Answered(answer) => return Ok(Some(answer)),
+        }
+    }
+    Ok(None)
+}
+
+/// Runs a line, and holds its answer and its events against those that it should have.
+fn runs_as(
+    rt: &impl Abort,
+    alloc: Global,
+    desk: &mut Plain,
+    line: &Line,
+    answer: Answer,
+    events: &[Seen],
+) -> Result<(), Memory>
+    requires { Fits line.now.deed }
+{
+    let got = run(alloc, desk, line)?;
+    assert_eq!(rt; got, Some(answer));
+    let got = all_seen(alloc, desk)?;
+    assert_eq!(rt; got.as_slice(), events);
+    Ok(())
+}
+
+#[test]
+fn a_packet_is_sealed_with_the_first_id_for_the_remote(rt: HostRuntime) -> Result<(), Fail> {
+    let mut desk = desk_at(&rt, rt.alloc(), 1);
+    let answer = Answer::Sealed(SealedOut {
+        to: REMOTE,
+        key: 0,
+        id: 1,
+        datagram: Octets::of(rt.alloc(), &DATAGRAM)?,
+    });
+    let line = tx(rt.alloc(), &PACKET)?;
+    let events = [
+        Seen::TxLook(VPN),
+        Seen::Draw(Drawn::Id(1)),
+        Seen::Sent,
+        Seen::Key(Given::More),
+        Seen::Peer(Given::More),
+    ];
+    runs_as(&rt, rt.alloc(), &mut desk, &line, answer, &events)?;
+    Ok(())
+}
+
+#[test]
+fn a_datagram_is_delivered_once(rt: HostRuntime) -> Result<(), Fail> {
+    let mut desk = desk_at(&rt, rt.alloc(), 1);
+    let line = rx(rt.alloc(), &DATAGRAM)?;
+    let answer = Answer::Delivered {
+        peer: PeerId::new(5).expect(&rt, "an id in range"),
+        packet: Octets::of(rt.alloc(), &PACKET)?,
+    };
+    let events = [
+        Seen::RxLook,
+        Seen::Replay(1, Verdict::Accept),
+        Seen::Settle,
+        Seen::Key(Given::More),
+        Seen::Peer(Given::More),
+    ];
+    runs_as(&rt, rt.alloc(), &mut desk, &line, answer, &events)?;
+    let again = [
+        Seen::RxLook,
+        Seen::Replay(1, Verdict::Again),
+        Seen::Key(Given::More),
+        Seen::Peer(Given::More),
+    ];
+    runs_as(
+        &rt,
+        rt.alloc(),
+        &mut desk,
+        &line,
+        Answer::Dropped(DropCause::Again),
+        &again,
+    )?;
+    Ok(())
+}
+
+#[test]
+fn a_wrong_tag_is_not_judged(rt: HostRuntime) -> Result<(), Fail> {
+    let mut desk = desk_at(&rt, rt.alloc(), 1);
+    let mut wrong = DATAGRAM;
+    wrong[8] ^= 1;
+    let line = rx(rt.alloc(), &wrong)?;
+    let events = [
+        Seen::RxLook,
+        Seen::Key(Given::More),
+        Seen::Peer(Given::More),
+    ];
+    runs_as(
+        &rt,
+        rt.alloc(),
+        &mut desk,
+        &line,
+        Answer::Dropped(DropCause::BadTag),
+        &events,
+    )?;
+    Ok(())
+}
+
+#[test]
+fn a_packet_goes_to_the_peer_of_its_next_hop(rt: HostRuntime) -> Result<(), Fail> {
+    let mut desk = desk_at(&rt, rt.alloc(), 1);
+    let line = tx(rt.alloc(), &ASTRAY)?;
+    let looked = [Seen::TxLook(Addr::V4([10, 9, 9, 9]))];
+    runs_as(
+        &rt,
+        rt.alloc(),
+        &mut desk,
+        &line,
+        Answer::Dropped(DropCause::NoPeer),
+        &looked,
+    )?;
+    desk.route(VPN);
+    let answer = run(rt.alloc(), &mut desk, &line)?;
+    let Some(Answer::Sealed(sealed)) = answer else {
+        panic!(rt; "not sealed");
+    };
+    assert_eq!(rt; sealed.to, REMOTE);
+    let seen = all_seen(rt.alloc(), &desk)?;
+    let events = [
+        Seen::TxLook(VPN),
+        Seen::Draw(Drawn::Id(1)),
+        Seen::Sent,
+        Seen::Key(Given::More),
+        Seen::Peer(Given::More),
+    ];
+    assert_eq!(rt; seen.as_slice(), &events[..]);
+    Ok(())
+}
+
+#[test]
+fn a_source_is_settled_by_its_next_hop(rt: HostRuntime) -> Result<(), Fail> {
+    let mut desk = desk_at(&rt, rt.alloc(), 1);
+    desk.route(Addr::V4([10, 8, 0, 6]));
+    let line = rx(rt.alloc(), &DATAGRAM)?;
+    let events = [
+        Seen::RxLook,
+        Seen::Replay(1, Verdict::Accept),
+        Seen::Settle,
+        Seen::Key(Given::More),
+        Seen::Peer(Given::More),
+    ];
+    runs_as(
+        &rt,
+        rt.alloc(),
+        &mut desk,
+        &line,
+        Answer::Dropped(DropCause::NotOwner),
+        &events,
+    )?;
+    Ok(())
+}
+
+#[test]
+fn a_line_that_is_answered_at_once_makes_no_event(rt: HostRuntime) -> Result<(), Fail> {
+    let mut desk = desk_at(&rt, rt.alloc(), 1);
+    let line = netlink(NlOp::PeerGet, None);
+    let answer = Answer::Reply(Reply::Refused(Errno::Invalid));
+    runs_as(&rt, rt.alloc(), &mut desk, &line, answer, &[])?;
+    let line = tx(rt.alloc(), &[0x20])?;
+    let answer = Answer::Dropped(DropCause::NotIp);
+    runs_as(&rt, rt.alloc(), &mut desk, &line, answer, &[])?;
+    let line = rx(rt.alloc(), &[0x4a, 0, 0, 5, 0, 0, 0, 1])?;
+    let answer = Answer::Dropped(DropCause::Short);
+    runs_as(&rt, rt.alloc(), &mut desk, &line, answer, &[])?;
+    let line = rx(rt.alloc(), &[0x32, 0, 0, 5])?;
+    let answer = Answer::Dropped(DropCause::DataV1);
+    runs_as(&rt, rt.alloc(), &mut desk, &line, answer, &[])?;
+    let line = rx(rt.alloc(), &[0x22, 0, 0, 5])?;
+    runs_as(&rt, rt.alloc(), &mut desk, &line, Answer::Control, &[])?;
+    Ok(())
+}
+
+#[test]
+fn a_datagram_of_nobody_is_looked_up_and_dropped(rt: HostRuntime) -> Result<(), Fail> {
+    let mut desk = desk_at(&rt, rt.alloc(), 1);
+    let mut other_peer = DATAGRAM;
+    other_peer[3] = 6;
+    let line = rx(rt.alloc(), &other_peer)?;
+    let answer = Answer::Dropped(DropCause::NoPeer);
+    runs_as(&rt, rt.alloc(), &mut desk, &line, answer, &[Seen::RxLook])?;
+    let mut other_key = DATAGRAM;
+    other_key[0] = 0x4b;
+    let line = rx(rt.alloc(), &other_key)?;
+    let answer = Answer::Dropped(DropCause::NoKey);
+    runs_as(&rt, rt.alloc(), &mut desk, &line, answer, &[Seen::RxLook])?;
+    Ok(())
+}
+
+#[test]
+fn a_removed_peer_is_released_by_the_line_that_owes_it(rt: HostRuntime) -> Result<(), Fail> {
+    let mut desk = desk_at(&rt, rt.alloc(), 1);
+    let peer = NlPeer {
+        id: Some(5),
+        ..NO_ATTRIBUTES
+    };
+    let line = netlink(NlOp::PeerDel, Some(peer));
+    let answer = run(rt.alloc(), &mut desk, &line)?;
+    let Some(Answer::Reply(Reply::Removed(serials))) = answer else {
+        panic!(rt; "not removed");
+    };
+    assert_eq!(rt; serials.as_slice(), &[0][..]);
+    let seen = all_seen(rt.alloc(), &desk)?;
+    assert_eq!(rt; seen.as_slice(), &[Seen::Do, Seen::Released(0)][..]);
+    Ok(())
+}
+
+#[test]
+fn a_spent_key_is_taken_out_and_released(rt: HostRuntime) -> Result<(), Fail> {
+    let mut desk = desk_at(&rt, rt.alloc(), 4_294_967_296);
+    desk.be_last();
+    let line = tx(rt.alloc(), &PACKET)?;
+    let events = [
+        Seen::TxLook(VPN),
+        Seen::Draw(Drawn::Spent),
+        Seen::Spend,
+        Seen::Key(Given::Last),
+        Seen::KeyReleased(0),
+        Seen::Peer(Given::Last),
+        Seen::Released(0),
+    ];
+    runs_as(
+        &rt,
+        rt.alloc(),
+        &mut desk,
+        &line,
+        Answer::Dropped(DropCause::Spent),
+        &events,
+    )?;
+    Ok(())
+}
