@@ -9,6 +9,7 @@ use crate::ended::Cause;
 use crate::tests::{cause_of, run};
 use ov_base::Memory;
 use std::alloc::Global;
+use std::process::Abort;
 use std::test::Fail;
 
 /// A peer with id 5.
@@ -68,8 +69,12 @@ fn text(alloc: Global, lines: &[&str]) -> Result<Vec<u8>, Memory> {
 }
 
 /// Runs a script of these lines; the whole text that is written must be these lines of a report.
-fn gives(rt: &HostRuntime, script: &[&str], report: &[&str]) -> Result<(), Fail> {
-    let alloc = rt.alloc();
+fn gives(
+    rt: &impl Abort,
+    alloc: Global,
+    script: &[&str],
+    report: &[&str],
+) -> Result<(), Fail> {
     let script = text(alloc, script)?;
     let report = text(alloc, report)?;
     let (status, written) = run(alloc, "trace", script.as_slice(), &[], &[])?;
@@ -82,6 +87,7 @@ fn gives(rt: &HostRuntime, script: &[&str], report: &[&str]) -> Result<(), Fail>
 fn the_first_packet_is_sealed_with_id_1_and_counted(rt: HostRuntime) -> Result<(), Fail> {
     gives(
         &rt,
+        rt.alloc(),
         &[
             PEER5,
             KEY5,
@@ -107,6 +113,7 @@ fn the_first_packet_is_sealed_with_id_1_and_counted(rt: HostRuntime) -> Result<(
 fn a_replaced_key_is_released(rt: HostRuntime) -> Result<(), Fail> {
     gives(
         &rt,
+        rt.alloc(),
         &[
             PEER5,
             KEY5,
@@ -129,6 +136,7 @@ fn a_replaced_key_is_released(rt: HostRuntime) -> Result<(), Fail> {
 fn a_datagram_is_delivered_once(rt: HostRuntime) -> Result<(), Fail> {
     gives(
         &rt,
+        rt.alloc(),
         &[
             PEER5,
             KEY5,
@@ -156,6 +164,7 @@ fn a_datagram_is_delivered_once(rt: HostRuntime) -> Result<(), Fail> {
 fn a_wrong_tag_leaves_the_packet_id_fresh(rt: HostRuntime) -> Result<(), Fail> {
     gives(
         &rt,
+        rt.alloc(),
         &[
             PEER5,
             KEY5,
@@ -182,6 +191,7 @@ fn a_wrong_tag_leaves_the_packet_id_fresh(rt: HostRuntime) -> Result<(), Fail> {
 fn short_and_other_datagrams_are_refused_or_passed_on(rt: HostRuntime) -> Result<(), Fail> {
     gives(
         &rt,
+        rt.alloc(),
         &[
             PEER5,
             KEY5,
@@ -216,6 +226,7 @@ fn short_and_other_datagrams_are_refused_or_passed_on(rt: HostRuntime) -> Result
 fn an_inner_source_of_another_peer_is_not_delivered(rt: HostRuntime) -> Result<(), Fail> {
     gives(
         &rt,
+        rt.alloc(),
         &[
             PEER5,
             KEY5,
@@ -245,6 +256,7 @@ fn an_inner_source_of_another_peer_is_not_delivered(rt: HostRuntime) -> Result<(
 fn a_removed_peer_has_its_keys_released_before_it(rt: HostRuntime) -> Result<(), Fail> {
     gives(
         &rt,
+        rt.alloc(),
         &[
             PEER5,
             KEY5,
@@ -279,6 +291,7 @@ fn a_removed_peer_has_its_keys_released_before_it(rt: HostRuntime) -> Result<(),
 fn without_a_key_nothing_is_sealed_or_opened(rt: HostRuntime) -> Result<(), Fail> {
     gives(
         &rt,
+        rt.alloc(),
         &[
             PEER5,
             SEND5,
