@@ -30,12 +30,10 @@ const RECEIVE5: &str =
     r#"{"at":0,"datagram":"4a0000050000000160510e1c04ad719a851c1bc16f2d39abdf16c4d59bf4324469214f1f674636283bf64896","do":"rx","from":{"addr":"192.0.2.1","port":1194},"lane":0}"#;
 
 /// The peer is asked for.
-const GET5: &str =
-    r#"{"at":0,"do":"peer-get","lane":0,"peer":{"id":5}}"#;
+const GET5: &str = r#"{"at":0,"do":"peer-get","lane":0,"peer":{"id":5}}"#;
 
 /// The peer is removed.
-const DELETE5: &str =
-    r#"{"at":0,"do":"peer-del","lane":0,"peer":{"id":5}}"#;
+const DELETE5: &str = r#"{"at":0,"do":"peer-del","lane":0,"peer":{"id":5}}"#;
 
 /// The key under another key id.
 const OTHER_KEY5: &str =
@@ -52,11 +50,9 @@ const PEER_MADE: &str =
 const KEY_MADE: &str =
     r#"{"at":0,"call":"key-new","journal":1,"lane":0,"line":1,"reply":{"serial":0}}"#;
 
-const PEER_ANSWER: &str =
-    r#"{"answer":{"serial":0},"lane":0,"line":0}"#;
+const PEER_ANSWER: &str = r#"{"answer":{"serial":0},"lane":0,"line":0}"#;
 
-const KEY_ANSWER: &str =
-    r#"{"answer":{"serial":0},"lane":0,"line":1}"#;
+const KEY_ANSWER: &str = r#"{"answer":{"serial":0},"lane":0,"line":1}"#;
 
 /// These lines, each with its end.
 fn text(alloc: Global, lines: &[&str]) -> Result<Vec<u8>, Memory> {
@@ -69,12 +65,7 @@ fn text(alloc: Global, lines: &[&str]) -> Result<Vec<u8>, Memory> {
 }
 
 /// Runs a script of these lines; the whole text that is written must be these lines of a report.
-fn gives(
-    rt: &impl Abort,
-    alloc: Global,
-    script: &[&str],
-    report: &[&str],
-) -> Result<(), Fail> {
+fn gives(rt: &impl Abort, alloc: Global, script: &[&str], report: &[&str]) -> Result<(), Fail> {
     let script = text(alloc, script)?;
     let report = text(alloc, report)?;
     let (status, written) = run(alloc, "trace", script.as_slice(), &[], &[])?;
@@ -88,12 +79,7 @@ fn the_first_packet_is_sealed_with_id_1_and_counted(rt: HostRuntime) -> Result<(
     gives(
         &rt,
         rt.alloc(),
-        &[
-            PEER5,
-            KEY5,
-            SEND5,
-            GET5,
-        ],
+        &[PEER5, KEY5, SEND5, GET5],
         &[
             PEER_MADE,
             KEY_MADE,
@@ -114,11 +100,7 @@ fn a_replaced_key_is_released(rt: HostRuntime) -> Result<(), Fail> {
     gives(
         &rt,
         rt.alloc(),
-        &[
-            PEER5,
-            KEY5,
-            OTHER_KEY5,
-        ],
+        &[PEER5, KEY5, OTHER_KEY5],
         &[
             PEER_MADE,
             KEY_MADE,
@@ -137,12 +119,7 @@ fn a_datagram_is_delivered_once(rt: HostRuntime) -> Result<(), Fail> {
     gives(
         &rt,
         rt.alloc(),
-        &[
-            PEER5,
-            KEY5,
-            RECEIVE5,
-            RECEIVE5,
-        ],
+        &[PEER5, KEY5, RECEIVE5, RECEIVE5],
         &[
             PEER_MADE,
             KEY_MADE,
@@ -165,12 +142,7 @@ fn a_wrong_tag_leaves_the_packet_id_fresh(rt: HostRuntime) -> Result<(), Fail> {
     gives(
         &rt,
         rt.alloc(),
-        &[
-            PEER5,
-            KEY5,
-            WRONG5,
-            RECEIVE5,
-        ],
+        &[PEER5, KEY5, WRONG5, RECEIVE5],
         &[
             PEER_MADE,
             KEY_MADE,
@@ -257,14 +229,7 @@ fn a_removed_peer_has_its_keys_released_before_it(rt: HostRuntime) -> Result<(),
     gives(
         &rt,
         rt.alloc(),
-        &[
-            PEER5,
-            KEY5,
-            OTHER_KEY5,
-            DELETE5,
-            SEND5,
-            RECEIVE5,
-        ],
+        &[PEER5, KEY5, OTHER_KEY5, DELETE5, SEND5, RECEIVE5],
         &[
             PEER_MADE,
             KEY_MADE,
@@ -292,11 +257,7 @@ fn without_a_key_nothing_is_sealed_or_opened(rt: HostRuntime) -> Result<(), Fail
     gives(
         &rt,
         rt.alloc(),
-        &[
-            PEER5,
-            SEND5,
-            RECEIVE5,
-        ],
+        &[PEER5, SEND5, RECEIVE5],
         &[
             PEER_MADE,
             r#"{"at":0,"call":"tx-look","journal":1,"lane":0,"line":1,"reply":{"none":"no-key"}}"#,
