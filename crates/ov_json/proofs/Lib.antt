@@ -1,5 +1,6 @@
 pub mod NoFloat
 pub mod Cutting
+pub mod Fitting
 pub mod Judging
 pub mod Lines
 pub mod Names

@@ -1,7 +1,9 @@
 //! The script of a source: its bytes cut into lines, each read once.
 
 ghost use Rattle.std.specs.Prelude.{◌≡◌, ◌≤◌, ◌⊎◌, ℕ, List, [], Some, length, take, IfOk, IfErr, OnOk};
+ghost use Rattle.std.specs.List.{AllByRecursion};
 ghost use Rattle.ov_base.specs.Outside.{Rose};
+ghost use Rattle.ov_model.specs.Sizes.{Fits};
 ghost use Rattle.ov_json.specs.Reading as spec;
 
 use crate::line::LineStop;
@@ -67,6 +69,7 @@ pub fn read_script<S: Source>(alloc: Global, source: &mut S, lanes: u32) -> Read
     ensures good { (taken : List ℕ) → spec.Gave (S.left source.old) (S.left source.new) taken
         → spec.AreGood lanes (spec.counted_lines taken) result.good }
     ensures later { S.faults source.old ≤ S.faults source.new }
+    ensures fits { IfOk result.outcome (λ script. AllByRecursion (λ line. Fits line.deed) script.lines) }
 {
     let taken = read_to_end(alloc, source, most_bytes());
     let mut lines = Vec::new(alloc);

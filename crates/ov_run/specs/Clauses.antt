@@ -7,8 +7,9 @@ use Rattle.ov_base.specs.Outside.{Rose}
 use Rattle.ov_base.specs.Loops.{AppendsPart}
 use Rattle.ov_model.specs.declared.line.Script.{Script}
 use Rattle.ov_model.specs.declared.report.Report.{Report}
-use Rattle.ov_model.specs.Removals.{RemovalsNoted, AllReleased}
-use Rattle.ov_model.specs.Legal.{Legal, JournalRuns}
+use Rattle.ov_model.specs.Keys.{IdsCount}
+use Rattle.ov_model.specs.Removals.{AllReleased}
+use Rattle.ov_model.specs.Legal.{Legal, JournalRuns, RemovalsAreNoted, ShardsJudge}
 use Rattle.ov_json.specs.Reading.{Gave, IsScript, HasNoStop, Early, Stop, Event, bad_line, passed, whole_lines, ended_lines}
 use Rattle.ov_json.specs.declared.script.ReadStop.{ReadStop}
 use Rattle.ov_json.specs.declared.script.ReadStop.TheVariants as stop
@@ -42,20 +43,23 @@ IsStop cause.ReadFault = ⊤
 IsStop cause.WriteFault = ⊥
 IsStop cause.Memory = ⊥
 
--- The script of the bytes that were read, whose report this is.
+-- The script of the bytes that were read, whose report this is. The first packet id of every key is 1.
 pub record Read (taken : List ℕ) (report : Report) : Type 0 where
   pub no_stop : HasNoStop taken 1
   pub script : Script
   pub is_script : IsScript taken 1 script
-  pub legal : Legal script report
+  pub legal : Legal script 1 report
 
--- A report: the journal is a run with its notes, each removal has its notes, no removed peer is left,
--- there is one lane, and where the source tells what it
--- holds, it is at its end and the report is legal for the script of what it gave.
+-- A report: the journal is a run with its notes, each removal has its notes, no removed peer and no key
+-- that was taken out is left, each replay step has the verdict that the earlier ones give it, the packet
+-- ids of each key count up from 1, there is one lane, and where the source tells what it holds, it is at
+-- its end and the report is legal for the script of what it gave.
 pub record Reported (before now : Option (List ℕ)) (report : Report) : Type 0 where
   pub runs : JournalRuns report
-  pub removals : RemovalsNoted report.journal report.notes
+  pub removals : RemovalsAreNoted report
   pub released : AllReleased report.journal
+  pub shards : ShardsJudge report
+  pub ids : IdsCount 1 report
   pub one_lane : length report.lanes ≡ 1
   pub read : (taken : List ℕ) → Gave before now taken → (now ≡ Some []) × Read taken report
 

@@ -3,19 +3,24 @@
 ghost use Rattle.std.specs.Prelude.{◌≡◌, ◌≢◌, ◌<◌, ◌↔◌, ℕ, List, None, length, IsTrue, IfSome};
 ghost use Rattle.std.specs.List.{AllByRecursion};
 ghost use Rattle.ov_base.specs.Outside.{Rose};
-ghost use Rattle.ov_model.specs.Legal.{Legal, JournalRuns};
+ghost use Rattle.ov_model.specs.Keys.{IdsCount};
+ghost use Rattle.ov_model.specs.Legal.{Legal, JournalRuns, RemovalsAreNoted, ShardsJudge};
 ghost use Rattle.ov_model.specs.Removals.{AllReleased};
+ghost use Rattle.ov_model.specs.Sizes.{Fits};
 ghost use Rattle.ov_json.specs.Reading as reading;
 ghost use Rattle.ov_run.specs.declared.ended.Cause.TheVariants as cause;
 ghost use Rattle.ov_run.specs.Clauses as spec;
 
 use crate::ended::{Cause, Ended};
-use crate::session::run_script;
-use crate::text::text_of;
 use ov_base::{Sink, Source, write_all};
 use ov_json::{ReadStop, Reading, read_script};
 use ov_model::Script;
+use ov_serial::run_script;
+use ov_text::text_of;
 use std::alloc::Global;
+
+/// The first packet id that each key sends: a nonce of 0 is never used.
+const FIRST_ID: u32 = 1;
 
 /// Whether the words after the program's name are those of a run.
 fn is_trace(words: &[String]) -> bool
@@ -41,14 +46,18 @@ fn cause_of(stop: ReadStop) -> Cause
 
 /// Runs a script that was read whole and writes its report.
 fn trace<K: Sink>(alloc: Global, script: Script, read_lines: u64, sink: &mut K) -> Ended
+    requires fits { AllByRecursion (λ line. Fits line.deed) script.lines }
     ensures lines { result.read_lines ≡ read_lines }
     ensures cause { spec.Ran (K.written sink.old) (K.written sink.new) (K.faults sink.old) (K.faults sink.new) result }
     ensures runs { IfSome result.report JournalRuns }
+    ensures noted { IfSome result.report RemovalsAreNoted }
     ensures released { IfSome result.report (λ report. AllReleased report.journal) }
+    ensures shards { IfSome result.report ShardsJudge }
+    ensures ids { IfSome result.report (IdsCount 1) }
     ensures one_lane { IfSome result.report (λ report. length report.lanes ≡ 1) }
-    ensures legal { IfSome result.report (λ report. AllByRecursion (λ line. line.lane < 1) script.lines → Legal script report) }
+    ensures legal { IfSome result.report (λ report. AllByRecursion (λ line. line.lane < 1) script.lines → Legal script 1 report) }
 {
-    let report = match run_script(alloc, script) {
+    let report = match run_script(alloc, script, FIRST_ID) {
         Ok(report) => report,
         Err(_) => {
             return Ended {

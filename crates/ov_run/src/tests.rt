@@ -1,5 +1,6 @@
 //! Whole runs over sources and sinks in memory, in pieces of 16 bytes.
 
+use crate::ended::{Cause, Ended};
 use crate::run::run_serial;
 use ov_base::{ListOf, Memory, MemorySink, MemorySource, Octets};
 use std::alloc::Global;
@@ -15,14 +16,14 @@ fn calls(alloc: Global, numbers: &[u64]) -> Result<ListOf<u64>, Memory> {
     Ok(ListOf::of_vec(numbers))
 }
 
-/// The status and the written text of a run on `text`, with one word and where these calls fail.
-fn run(
+/// How a run on `text` ended and what it wrote, with one word and where these calls fail.
+fn ran(
     alloc: Global,
     word: &str,
     text: &[u8],
     reads: &[u64],
     writes: &[u64],
-) -> Result<(u8, Octets), Memory> {
+) -> Result<(Ended, Octets), Memory> {
     let mut words = Vec::new(alloc);
     words.push(String::from_str(alloc, word)?)?;
     let bytes = Octets::of(alloc, text)?;
@@ -30,7 +31,25 @@ fn run(
     let mut sink = MemorySink::new(alloc, 16, calls(alloc, writes)?);
     let ended = run_serial(alloc, words.as_slice(), &mut source, &mut sink);
     let written = Octets::of(alloc, sink.written())?;
+    Ok((ended, written))
+}
+
+/// The status and the written text of a run on `text`, with one word and where these calls fail.
+pub fn run(
+    alloc: Global,
+    word: &str,
+    text: &[u8],
+    reads: &[u64],
+    writes: &[u64],
+) -> Result<(u8, Octets), Memory> {
+    let (ended, written) = ran(alloc, word, text, reads, writes)?;
     Ok((ended.status(), written))
+}
+
+/// Why a run on `text` ended.
+pub fn cause_of(alloc: Global, text: &[u8]) -> Result<Cause, Memory> {
+    let (ended, _) = ran(alloc, "trace", text, &[], &[])?;
+    Ok(ended.cause)
 }
 
 #[test]

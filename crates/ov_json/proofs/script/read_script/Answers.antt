@@ -1,6 +1,8 @@
 -- What the lines show of the bytes that were read holds of those that the source tells it gave.
 use Rattle.std.proofs.Common.{◌≡◌, length, rules}
 use Rattle.ov_json.proofs.Judging.{known_of, stops_known, no_stop_known, not_early_known, counts_known, good_known}
+use Rattle.ov_json.proofs.Fitting.{lines_fit}
+use Rattle.ov_json.specs.Reading.{whole_lines}
 use Rattle.ov_json.proofs.script.read_script.Goals as goal
 
 pub returns-in-Err-clause-stops : goal.returns-in-Err-clause-stops
@@ -49,3 +51,6 @@ returns-clause-no_stop g c =
     let ended = c.read_to_end-taken.result.end in
     let known = known_of before now c.read_to_end-taken.result.bytes bytes ended c.most_bytes.result (g.S.Source.faults c.args.source.now) (g.S.Source.faults c.read_to_end-taken.new.source) c.read_to_end-taken.ensures.taken c.read_to_end-taken.ensures.end c.most_bytes.ensures c.as_slice.ensures in
     no_stop_known c.args.lanes before now bytes ended c.read_lines.new.lines.items known c.in_default.ensures.judged
+
+pub returns-clause-fits : goal.returns-clause-fits
+returns-clause-fits g c = rw c.of_vec.ensures (lines_fit c.args.lanes (whole_lines c.as_slice.result.now) c.read_lines.new.lines.items c.in_default.ensures.judged.1)
