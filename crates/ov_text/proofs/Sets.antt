@@ -14,7 +14,7 @@ use Rattle.std.proofs.lemmas.Bool.{eqb-true, eq-eqb}
 use Rattle.std.proofs.lemmas.Map.Text.{is_eq-slice_cmp}
 use Rattle.ov_model.specs.declared.command.KeyDir.{KeyDir}
 use Rattle.ov_model.specs.declared.entry.Entry.{Entry}
-use Rattle.ov_model.specs.Keys.{same_dir, sealing_in, conf_made, KeysDiffer}
+use Rattle.ov_model.specs.Keys.{same_dir, sealing_in, KeysDiffer}
 use Rattle.ov_json.specs.Summary.{keys_differ}
 use Rattle.ov_json.proofs.Differ.{keys_differ-exactly}
 use Rattle.ov_text.specs.Sealing.{pair_of, pair_read, same_pair, pair_cmp, sealing_by}
