@@ -155,8 +155,8 @@ mod tests {
     /// A direction with a key of so many bytes, each a 7, and a tail of so many, each a 9.
     fn dir(alloc: Global, key: usize, tail: usize) -> Result<Option<NlKeyDir>, Memory> {
         Ok(Some(NlKeyDir {
-            cipher_key: Some(Octets::of(alloc, &[7; 40][..key])?),
-            nonce_tail: Some(Octets::of(alloc, &[9; 40][..tail])?),
+            cipher_key: Some(Octets::of_vec(vec![in alloc; 7u8; key]?)),
+            nonce_tail: Some(Octets::of_vec(vec![in alloc; 9u8; tail]?)),
         }))
     }
 
@@ -174,6 +174,11 @@ mod tests {
             encrypt: dir(alloc, encrypt.0, encrypt.1)?,
             decrypt: dir(alloc, decrypt.0, decrypt.1)?,
         })
+    }
+
+    /// A key-new that is taken.
+    fn good(alloc: Global) -> Result<NlKeyConf, Memory> {
+        whole(alloc, (16, 8), (16, 8))
     }
 
     /// What the attributes are answered.
@@ -234,7 +239,6 @@ mod tests {
 
     #[test]
     fn what_is_missing_or_out_of_range_is_refused(rt: HostRuntime) -> Result<(), Fail> {
-        let good = |alloc| whole(alloc, (16, 8), (16, 8));
         let rows = [
             NlKeyConf {
                 peer_id: None,

@@ -4,6 +4,8 @@
 pub mod counts;
 pub mod differ;
 pub mod summary;
+#[cfg(test)]
+mod tests;
 pub mod text;
 
 pub use differ::keys_differ;

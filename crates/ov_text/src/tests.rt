@@ -1,0 +1,315 @@
+use crate::{keys_differ, text_of};
+use ov_base::{Addr, ListOf, Memory, Octets, Transport};
+use ov_model::{
+    Act, Answer, Attrs, Call, Command, Counts, DropCause, Entry, Errno, Keepalive, KeyBytes,
+    KeyConf, KeyDir, KeyId, LaneLog, Note, NoteBody, PeerId, PeerView, Place, Reason, ReplayEntry,
+    Reply, Report, SealedOut, Slot, Verdict,
+};
+use std::alloc::Global;
+use std::test::Fail;
+
+/// The report of one lane with these histories; all lines of its lane are answered.
+fn report(
+    alloc: Global,
+    journal: Vec<Entry>,
+    shards: Vec<ListOf<ReplayEntry>>,
+    answers: Vec<Answer>,
+    notes: Vec<Note>,
+) -> Result<Report, Memory> {
+    let log = LaneLog {
+        lines: ListOf::new(alloc),
+        answers: ListOf::of_vec(answers),
+        recorded: 0,
+        unsent: ListOf::new(alloc),
+    };
+    let mut lanes = ListOf::new(alloc);
+    if lanes.push(log).is_err() {
+        return Err(Memory);
+    }
+    Ok(Report {
+        lanes,
+        journal: ListOf::of_vec(journal),
+        notes: ListOf::of_vec(notes),
+        shards: ListOf::of_vec(shards),
+    })
+}
+
+/// Eight shards, the first and the last with these steps.
+fn shards(
+    alloc: Global,
+    first: Vec<ReplayEntry>,
+    last: Vec<ReplayEntry>,
+) -> Result<Vec<ListOf<ReplayEntry>>, Memory> {
+    let mut all = Vec::new(alloc);
+    all.push(ListOf::of_vec(first))?;
+    for _shard in 1..7 {
+        all.push(ListOf::new(alloc))?;
+    }
+    all.push(ListOf::of_vec(last))?;
+    Ok(all)
+}
+
+/// The text of a report, which has one lane and eight shards.
+fn printed(alloc: Global, report: &Report) -> Result<Vec<u8>, Memory> {
+    if report.lanes.as_slice().len() != 1 || report.shards.as_slice().len() != 8 {
+        return Err(Memory);
+    }
+    text_of(alloc, report)
+}
+
+/// The lines with their ends.
+fn joined(alloc: Global, lines: &[&[u8]]) -> Result<Vec<u8>, Memory> {
+    let mut text = Vec::new(alloc);
+    for line in lines {
+        text.extend_from_slice(*line)?;
+        text.push(b'\n')?;
+    }
+    Ok(text)
+}
+
+/// An entry of lane 0.
+fn entry(line: u64, at: u32, act: Act, reply: Reply) -> Entry {
+    Entry {
+        place: Place { lane: 0, line },
+        call: Call { at, act },
+        reply,
+    }
+}
+
+/// The list of the serial 0.
+fn zero(alloc: Global) -> Result<ListOf<u32>, Memory> {
+    let mut list = ListOf::new(alloc);
+    match list.push(0) {
+        Ok(()) => Ok(list),
+        Err(_) => Err(Memory),
+    }
+}
+
+/// The remote 192.0.2.1 with port 1194.
+fn remote() -> Transport {
+    Transport {
+        addr: Addr::V4([192, 0, 2, 1]),
+        port: 1194,
+    }
+}
+
+/// A peer as it was made.
+fn fresh(id: PeerId) -> PeerView {
+    PeerView {
+        id,
+        remote: remote(),
+        vpn4: Some([10, 8, 0, 5]),
+        vpn6: None,
+        keepalive: Keepalive {
+            interval: 0,
+            timeout: 0,
+        },
+        counts: Counts {
+            vpn_rx_bytes: 0,
+            vpn_rx_packets: 0,
+            vpn_tx_bytes: 0,
+            vpn_tx_packets: 0,
+            link_rx_bytes: 0,
+            link_rx_packets: 0,
+            link_tx_bytes: 0,
+            link_tx_packets: 0,
+        },
+    }
+}
+
+#[test]
+fn an_empty_report_is_its_summary(rt: HostRuntime) -> Result<(), Fail> {
+    let alloc = rt.alloc();
+    let none = shards(alloc, Vec::new(alloc), Vec::new(alloc))?;
+    let empty = report(
+        alloc,
+        Vec::new(alloc),
+        none,
+        Vec::new(alloc),
+        Vec::new(alloc),
+    )?;
+    let text = printed(alloc, &empty)?;
+    let line: &[u8] =
+        br#"{"summary":{"accepted":0,"answers":0,"bad-tag":0,"delivered":0,"journal":0,"keys":0,"keys-differ":true,"notes":0,"peers":0,"refused":0,"released":0,"sealed":0}}"#;
+    assert!(rt; text == joined(alloc, &[line])?);
+    Ok(())
+}
+
+#[test]
+fn a_session_of_one_peer_has_its_eleven_lines(rt: HostRuntime) -> Result<(), Fail> {
+    let alloc = rt.alloc();
+    let Some(id) = PeerId::new(5) else {
+        panic!(rt; "an id in range");
+    };
+    let attrs = Attrs {
+        id,
+        remote: Some(remote()),
+        vpn4: Some([10, 8, 0, 5]),
+        vpn6: None,
+        keepalive: None,
+    };
+    let get = Act::Do(Command::PeerGet(id));
+    let remove = Act::Do(Command::Remove(id, Reason::Userspace));
+    let refused = Errno::NoEntry;
+    let journal = vec![in alloc;
+        entry(0, 0, Act::Do(Command::PeerNew(attrs)), Reply::Made(0)),
+        entry(1, 1, get, Reply::Peer(fresh(id))),
+        entry(2, 2, remove, Reply::Removed(zero(alloc)?)),
+        entry(2, 2, Act::Released(0), Reply::Released(0)),
+        entry(3, 3, get, Reply::Refused(refused)),
+    ]?;
+    let answers = vec![in alloc;
+        Answer::Reply(Reply::Made(0)),
+        Answer::Reply(Reply::Peer(fresh(id))),
+        Answer::Reply(Reply::Removed(zero(alloc)?)),
+        Answer::Reply(Reply::Refused(refused)),
+    ]?;
+    let body = NoteBody::PeerDel {
+        id,
+        reason: Reason::Userspace,
+    };
+    let notes = vec![in alloc; Note { entry: 2, body }]?;
+    let none = shards(alloc, Vec::new(alloc), Vec::new(alloc))?;
+    let text = printed(alloc, &report(alloc, journal, none, answers, notes)?)?;
+    let lines: [&[u8]; 11] = [
+        br#"{"at":0,"call":"peer-new","journal":0,"lane":0,"line":0,"reply":{"serial":0}}"#,
+        br#"{"at":1,"call":"peer-get","journal":1,"lane":0,"line":1,"reply":{"peer":{"id":5,"keepalive-interval":0,"keepalive-timeout":0,"link-rx-bytes":0,"link-rx-packets":0,"link-tx-bytes":0,"link-tx-packets":0,"remote-ipv4":"192.0.2.1","remote-port":1194,"vpn-ipv4":"10.8.0.5","vpn-rx-bytes":0,"vpn-rx-packets":0,"vpn-tx-bytes":0,"vpn-tx-packets":0}}}"#,
+        br#"{"at":2,"call":"remove","journal":2,"lane":0,"line":2,"reply":{"removed":[0]}}"#,
+        br#"{"at":2,"call":"released","journal":3,"lane":0,"line":2,"reply":{"released":0}}"#,
+        br#"{"at":3,"call":"peer-get","journal":4,"lane":0,"line":3,"reply":{"error":2}}"#,
+        br#"{"answer":{"serial":0},"lane":0,"line":0}"#,
+        br#"{"answer":{"peer":{"id":5,"keepalive-interval":0,"keepalive-timeout":0,"link-rx-bytes":0,"link-rx-packets":0,"link-tx-bytes":0,"link-tx-packets":0,"remote-ipv4":"192.0.2.1","remote-port":1194,"vpn-ipv4":"10.8.0.5","vpn-rx-bytes":0,"vpn-rx-packets":0,"vpn-tx-bytes":0,"vpn-tx-packets":0}},"lane":0,"line":1}"#,
+        br#"{"answer":{"removed":[0]},"lane":0,"line":2}"#,
+        br#"{"answer":{"error":2},"lane":0,"line":3}"#,
+        br#"{"journal":2,"notify":"peer-del-ntf","peer":{"del-reason":"userspace","id":5}}"#,
+        br#"{"summary":{"accepted":0,"answers":4,"bad-tag":0,"delivered":0,"journal":5,"keys":0,"keys-differ":true,"notes":1,"peers":1,"refused":0,"released":1,"sealed":0}}"#,
+    ];
+    assert!(rt; text == joined(alloc, &lines)?);
+    Ok(())
+}
+
+/// A replay step of the id 1 at 0.
+fn judged(line: u64, key: u32, verdict: Verdict) -> ReplayEntry {
+    ReplayEntry {
+        place: Place { lane: 0, line },
+        key,
+        id: 1,
+        at: 0,
+        moment: 0,
+        verdict,
+    }
+}
+
+/// A key-new with these directions.
+fn key_new(encrypt: KeyDir, decrypt: KeyDir) -> Option<Act> {
+    let peer = PeerId::new(5)?;
+    let key_id = KeyId::new(2)?;
+    Some(Act::Do(Command::KeyNew(KeyConf {
+        peer,
+        slot: Slot::Primary,
+        key_id,
+        encrypt,
+        decrypt,
+    })))
+}
+
+#[test]
+fn replay_steps_stand_between_entries_and_answers(rt: HostRuntime) -> Result<(), Fail> {
+    let alloc = rt.alloc();
+    let dir = KeyDir {
+        key: KeyBytes::K16([0; 16]),
+        tail: [0; 8],
+    };
+    let (Some(made), Some(peer)) = (key_new(dir, dir), PeerId::new(5)) else {
+        panic!(rt; "ids in range");
+    };
+    let journal = vec![in alloc; entry(1, 0, made, Reply::Made(0))]?;
+    let first = vec![in alloc; judged(2, 0, Verdict::Accept), judged(3, 0, Verdict::Again)]?;
+    let last = vec![in alloc; judged(4, 7, Verdict::Accept)]?;
+    let sealed = SealedOut {
+        to: remote(),
+        key: 0,
+        id: 1,
+        datagram: Octets::of(alloc, &[0x4a])?,
+    };
+    let packet = Octets::of(alloc, &[0x45])?;
+    let answers = vec![in alloc;
+        Answer::Sealed(sealed),
+        Answer::Delivered { peer, packet },
+        Answer::Dropped(DropCause::Again),
+        Answer::Dropped(DropCause::BadTag),
+        Answer::Dropped(DropCause::BadTag),
+    ]?;
+    let steps = shards(alloc, first, last)?;
+    let text = printed(
+        alloc,
+        &report(alloc, journal, steps, answers, Vec::new(alloc))?,
+    )?;
+    let lines: [&[u8]; 10] = [
+        br#"{"at":0,"call":"key-new","journal":0,"lane":0,"line":1,"reply":{"serial":0}}"#,
+        br#"{"at":0,"id":1,"key":0,"lane":0,"line":2,"moment":0,"shard":0,"verdict":"accept"}"#,
+        br#"{"at":0,"id":1,"key":0,"lane":0,"line":3,"moment":0,"shard":0,"verdict":"again"}"#,
+        br#"{"at":0,"id":1,"key":7,"lane":0,"line":4,"moment":0,"shard":7,"verdict":"accept"}"#,
+        br#"{"answer":{"sealed":{"datagram":"4a","id":1,"key":0,"to":{"addr":"192.0.2.1","port":1194}}},"lane":0,"line":0}"#,
+        br#"{"answer":{"delivered":{"packet":"45","peer":5}},"lane":0,"line":1}"#,
+        br#"{"answer":{"dropped":"again"},"lane":0,"line":2}"#,
+        br#"{"answer":{"dropped":"bad-tag"},"lane":0,"line":3}"#,
+        br#"{"answer":{"dropped":"bad-tag"},"lane":0,"line":4}"#,
+        br#"{"summary":{"accepted":2,"answers":5,"bad-tag":2,"delivered":1,"journal":1,"keys":1,"keys-differ":true,"notes":0,"peers":0,"refused":1,"released":0,"sealed":1}}"#,
+    ];
+    assert!(rt; text == joined(alloc, &lines)?);
+    Ok(())
+}
+
+#[test]
+fn keys_differ_by_their_sealing_key_and_tail(rt: HostRuntime) -> Result<(), Fail> {
+    let zero = KeyDir {
+        key: KeyBytes::K16([0; 16]),
+        tail: [0; 8],
+    };
+    let longer = KeyDir {
+        key: KeyBytes::K24([0; 24]),
+        ..zero
+    };
+    let other_tail = KeyDir {
+        tail: [1; 8],
+        ..zero
+    };
+    let other_key = KeyDir {
+        key: KeyBytes::K16([1; 16]),
+        ..zero
+    };
+    // What two keys seal and open with, and whether they differ.
+    let rows = [
+        (zero, zero, zero, zero, false),
+        (zero, zero, zero, other_key, false),
+        (zero, zero, longer, zero, true),
+        (zero, zero, other_tail, zero, true),
+        (zero, other_key, other_key, zero, true),
+        (longer, zero, longer, zero, false),
+    ];
+    for (number, (encrypt, decrypt, second, opens, differ)) in rows.into_iter().enumerate() {
+        let (Some(one), Some(two)) = (key_new(encrypt, decrypt), key_new(second, opens)) else {
+            panic!(rt; "ids in range");
+        };
+        let journal = [
+            entry(0, 0, one, Reply::Made(0)),
+            entry(1, 0, two, Reply::Made(1)),
+        ];
+        assert!(rt;
+            keys_differ(rt.alloc(), &journal) == Ok(differ),
+            "row {number}"
+        );
+        // One key differs from no other, and neither does one that was refused.
+        let journal = [
+            entry(0, 0, one, Reply::Made(0)),
+            entry(1, 0, two, Reply::Refused(Errno::NoSpace)),
+        ];
+        assert!(rt;
+            keys_differ(rt.alloc(), &journal) == Ok(true),
+            "row {number}"
+        );
+    }
+    assert_eq!(rt; keys_differ(rt.alloc(), &[]), Ok(true));
+    Ok(())
+}
