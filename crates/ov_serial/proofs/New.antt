@@ -1,6 +1,7 @@
 -- A new desk.
-use Rattle.std.proofs.Common.{ℕ, ◌≡◌, ◌+◌, ◌≤◌, List, [], ◌∷◌, ◌++◌, refl, sym, ap, arith, zero, suc, add-one}
+use Rattle.std.proofs.Common.{ℕ, ◌≡◌, ◌+◌, ◌≤◌, List, [], ◌∷◌, ◌++◌, refl, sym, ap, arith, zero, suc, add-one, subst}
 use Rattle.std.specs.Prelude.{Some, slice_get}
+use Rattle.std.specs.List.{AllByRecursion}
 use Rattle.ov_replay.specs.History.{History}
 use Rattle.ov_serial.specs.Desks.{Serial, Sound, shards_to, new_shards, new_desk}
 
@@ -30,3 +31,8 @@ new_sound first within = record {
   spare = omega arith;
   held = tt;
 }
+
+pub all_at : {X : Type 0} (P : X → Type 0) (xs : List X) (i : ℕ) (x : X) → AllByRecursion P xs → slice_get xs i ≡ Some x → P x
+all_at P [] i x all at = absurd (cc)
+all_at {X} P (y ∷ ys) zero x all at = let same : y ≡ x = cc in subst P same all.0
+all_at P (y ∷ ys) (suc i) x all at = all_at P ys i x all.1 at

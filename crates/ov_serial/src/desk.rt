@@ -2,9 +2,9 @@
 //! counters, and what the present line holds. What waits to be let go is owed as soon as the line holds no
 //! key.
 
-ghost use Rattle.std.specs.Prelude.{ℕ, ◌≡◌, [], IfOk, OnOk, Some, slice_get};
+ghost use Rattle.std.specs.Prelude.{◌≡◌, [], IfOk, OnOk};
+ghost use Rattle.std.specs.List.{AllByRecursion};
 ghost use Rattle.ov_model.specs.Replay.{ShardJudges};
-ghost use Rattle.ov_replay.specs.History.{History};
 ghost use Rattle.ov_serial.specs.Lines.{AllJudge};
 ghost use Rattle.ov_model.specs.Keys.{key_of};
 ghost use Rattle.ov_path.specs.Desks.{NoHold};
@@ -236,7 +236,7 @@ fn finish_all(
     shards: Vec<Shard>,
 ) -> Result<ListOf<ListOf<ReplayEntry>>, Memory>
     ensures histories { IfOk result (λ histories. histories ≡ spec.histories shards.items) }
-    ensures judged { IfOk result (λ histories. (k : ℕ) (s : History) → slice_get shards.items k ≡ Some s → ShardJudges s.number s.entries) }
+    ensures judged { OnOk result (AllByRecursion (λ s. ShardJudges s.number s.entries) shards.items) }
 {
     let mut histories = Vec::new(alloc);
     for shard in shards {

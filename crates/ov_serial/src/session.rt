@@ -39,6 +39,7 @@ pub fn run_script(alloc: Global, script: Script, first: u32) -> Result<Report, M
         unsent: ListOf::new(alloc),
     };
     lanes.push(log)?;
+    desk.keeps();
     let (journal, notes, shards) = desk.finish(alloc)?;
     Ok(Report {
         lanes: ListOf::of_vec(lanes),
