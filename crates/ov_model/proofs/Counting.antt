@@ -1,6 +1,6 @@
 -- Packet ids that are the numbers from the first on, in order.
-use Rattle.std.proofs.Common.{ℕ, ◌≡◌, ◌+◌, ◌≤◌, ◌<◌, zero, suc, List, [], ◌∷◌, ◌++◌, length, refl, sym, ◌∙◌, ap, Bool, true, false, arith, append-nil, append_assoc, inl, inr, nat_le, nat_lt, ◌==◌, ◌&&◌, if◌then◌else◌}
-use Rattle.std.specs.Prelude.{filter, map}
+use Rattle.std.proofs.Common.{ℕ, ◌≡◌, ◌+◌, ◌<◌, zero, suc, List, [], ◌∷◌, ◌++◌, length, refl, sym, ◌∙◌, ap, arith, append-nil, append_assoc, inl, inr, nat_le, nat_lt, ◌==◌, ◌&&◌, if◌then◌else◌}
+use Rattle.std.specs.Prelude.{filter}
 use Rattle.std.specs.List.{AllByRecursion}
 use Rattle.std.proofs.lemmas.Bool.{cases_eq, eq-eqb, ne_eqb}
 use Rattle.std.proofs.lemmas.Bool.Decides.{nat_tests}
@@ -10,7 +10,6 @@ use Rattle.ov_model.specs.declared.answer.Answer.{Answer}
 use Rattle.ov_model.specs.Events.{DrawnId, Event, Stepped, Judged, Drew, GaveKey, GavePeer, draws_in, drawn_id}
 use Rattle.ov_model.specs.Keys.{sealed_ids, sealed_in, ids_under, ids_of, Rises}
 use Rattle.ov_model.specs.Removals.{times}
-use Rattle.ov_model.proofs.Lanes.{all_weaker}
 
 -- The numbers from the first on, so many.
 abbrev pub counted : ℕ → ℕ → List ℕ

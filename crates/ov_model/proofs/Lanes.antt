@@ -250,9 +250,11 @@ shown_before lane line (r ∷ rs) none within =
 pub rise_judged : (shards : List (List ReplayEntry)) (k : ℕ) (r : ReplayEntry) (lane line : ℕ) → AllByRecursion (LinesRise lane) shards → AllByRecursion (AllByRecursion (λ s. s.place.lane ≡ lane → s.place.line ≤ line)) shards → shown_in shards lane line ≡ [] → r.place.line ≡ line → AllByRecursion (LinesRise lane) (judged_in shards k r)
 rise_judged [] k r lane line rises within none at = tt
 rise_judged (rs ∷ shards) zero r lane line rises within none at =
-    let empty = both_empty (shown rs lane line) (shown_in shards lane line) none in
-    (rise_more lane rs r rises.0 (all_weaker (λ s. s.place.lane ≡ lane → s.place.line < line) (λ s. s.place.lane ≡ lane → r.place.lane ≡ lane → s.place.line < r.place.line)
-        (λ s before own _. let b : s.place.line < line = before own in omega arith) rs (shown_before lane line rs empty.0 within.0)), rises.1)
+    let empty = both_empty (shown rs lane line) (shown_in shards lane line) none in (
+      rise_more lane rs r rises.0 (all_weaker (λ s. s.place.lane ≡ lane → s.place.line < line) (λ s. s.place.lane ≡ lane → r.place.lane ≡ lane → s.place.line < r.place.line)
+          (λ s before own _. let b : s.place.line < line = before own in omega arith) rs (shown_before lane line rs empty.0 within.0)),
+      rises.1,
+    )
 rise_judged (rs ∷ shards) (suc k) r lane line rises within none at =
     let empty = both_empty (shown rs lane line) (shown_in shards lane line) none in
     (rises.0, rise_judged shards k r lane line rises.1 within.1 empty.1 at)

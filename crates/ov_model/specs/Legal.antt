@@ -1,5 +1,5 @@
 -- What every report must be.
-use Rattle.std.specs.Prelude.{ℕ, ◌-◌, ◌≡◌, ◌<◌, ◌≤◌, List, [], ◌∷◌, Option, Some, None, ◌==◌, filter, take, length, slice_get}
+use Rattle.std.specs.Prelude.{ℕ, ◌-◌, ◌≡◌, ◌<◌, ◌≤◌, List, [], ◌∷◌, Option, Some, ◌==◌, filter, take, length, slice_get}
 use Rattle.std.specs.List.{AllByRecursion}
 use Rattle.ov_base.specs.declared.address.Addr.{Addr}
 use Rattle.ov_model.specs.declared.line.Line.{Line}

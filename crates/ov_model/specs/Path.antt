@@ -1,5 +1,5 @@
 -- Which steps and which answer one line has: a table over finished lists, one row for each case.
-use Rattle.std.specs.Prelude.{ℕ, ◌+◌, ◌≡◌, ◌≢◌, ⊤, List, [], ◌∷◌, ◌++◌, length, Bool, true, false, if◌then◌else◌, Option, Some, None, unwrap_or, map, Result, Ok, Err, IsSome}
+use Rattle.std.specs.Prelude.{ℕ, ◌+◌, ◌≡◌, ◌≢◌, ⊤, List, [], ◌∷◌, ◌++◌, length, Bool, true, false, Option, Some, None, unwrap_or, map, Result, Ok, Err, IsSome}
 use Rattle.ov_aes.specs.Aes.{key_list}
 use Rattle.ov_base.specs.declared.address.Addr.{Addr}
 use Rattle.ov_base.specs.declared.address.Addr.TheVariants.{V4, V6}
@@ -12,7 +12,6 @@ use Rattle.ov_model.specs.declared.act.Act.TheVariants as act
 use Rattle.ov_model.specs.declared.act.InnerKind.{InnerKind}
 use Rattle.ov_model.specs.declared.act.InnerKind.TheVariants as inner_kind
 use Rattle.ov_model.specs.declared.command.Command.{Command}
-use Rattle.ov_model.specs.declared.command.KeyDir.{KeyDir}
 use Rattle.ov_model.specs.declared.hold.Owed.{Owed}
 use Rattle.ov_model.specs.declared.hold.Owed.TheVariants as owed
 use Rattle.ov_model.specs.declared.reply.Errno.{Errno}

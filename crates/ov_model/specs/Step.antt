@@ -27,7 +27,7 @@ use Rattle.ov_model.specs.declared.reply.Reply.{Reply}
 use Rattle.ov_model.specs.declared.reply.Reply.TheVariants as reply
 use Rattle.ov_model.specs.declared.note.NoteBody.{NoteBody}
 use Rattle.ov_model.specs.declared.note.NoteBody.TheVariants as note
-use Rattle.ov_model.specs.Tables.{Peer, Key, Slots, Table, by_id, by_remote, by_vpn, shares_vpn, view_of, no_keys, in_slot, with_slot, key_if_any, keys_in, key_serials, by_key_id, by_key, without_key}
+use Rattle.ov_model.specs.Tables.{Peer, Key, Table, by_id, by_remote, by_vpn, shares_vpn, view_of, no_keys, in_slot, with_slot, key_if_any, keys_in, key_serials, by_key_id, by_key, without_key}
 
 -- after: the table; taken: the serials of the keys that left their slot, in order; notes: in order.
 pub record Outcome : Type 0 where

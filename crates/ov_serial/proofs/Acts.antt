@@ -1,10 +1,9 @@
 -- What the steps of the table do to what the desk keeps: the counters of keys, what a look-up holds, and
 -- how much a command takes and removes.
-use Rattle.std.proofs.Common.{ℕ, ◌≡◌, ◌+◌, ◌≤◌, ◌⊎◌, inl, inr, List, [], ◌∷◌, ◌++◌, length, get_or, refl, sym, ◌∙◌, ap, subst, arith, zero, suc, Bool, true, false, ◌==◌, ◌||◌, ◌&&◌, nat_le, if◌then◌else◌}
-use Rattle.std.specs.Prelude.{map, find, Option, Some, None, is_some, is_none, ⊤, position, slice_get}
+use Rattle.std.proofs.Common.{ℕ, ◌≡◌, ◌+◌, ◌≤◌, inl, inr, List, [], ◌∷◌, ◌++◌, length, get_or, refl, sym, ◌∙◌, subst, arith, zero, suc, Bool, true, false, ◌==◌, ◌&&◌, nat_le, if◌then◌else◌}
+use Rattle.std.specs.Prelude.{map, find, Option, Some, None, is_some, is_none, position, slice_get}
 use Rattle.std.specs.List.{list_any}
-use Rattle.std.proofs.lemmas.Bool.{cases_eq, eq-eqb, or_left, or_right}
-use Rattle.std.proofs.lemmas.Bool.Decides.{nat_tests}
+use Rattle.std.proofs.lemmas.Bool.{eq-eqb, or_left, or_right}
 use Rattle.ov_base.specs.declared.address.Addr.{Addr}
 use Rattle.ov_base.specs.declared.address.Transport.{Transport}
 use Rattle.ov_model.specs.declared.ident.PeerId.{PeerId}
@@ -12,11 +11,9 @@ use Rattle.ov_model.specs.declared.ident.KeyId.{KeyId}
 use Rattle.ov_model.specs.declared.command.Attrs.{Attrs}
 use Rattle.ov_model.specs.declared.command.KeyConf.{KeyConf}
 use Rattle.ov_model.specs.declared.command.Reason.{Reason}
-use Rattle.ov_model.specs.declared.command.Slot.TheVariants.{Primary, Secondary}
 use Rattle.ov_model.specs.declared.command.Command.{Command}
 use Rattle.ov_model.specs.declared.command.Command.TheVariants as command
 use Rattle.ov_model.specs.declared.act.Act.{Act}
-use Rattle.ov_model.specs.declared.act.Act.TheVariants as act
 use Rattle.ov_model.specs.declared.act.InnerKind.{InnerKind}
 use Rattle.ov_model.specs.declared.reply.HoldView.{HoldView}
 use Rattle.ov_model.specs.declared.reply.Settled.{Settled}
@@ -24,11 +21,11 @@ use Rattle.ov_model.specs.declared.reply.Errno.{Errno}
 use Rattle.ov_model.specs.declared.reply.Errno.TheVariants.{NoEntry, Exists, Invalid, NoSpace}
 use Rattle.ov_model.specs.declared.reply.Reply.{Reply}
 use Rattle.ov_model.specs.declared.reply.Reply.TheVariants as reply
-use Rattle.ov_model.specs.Tables.{Peer, Key, Slots, Table, by_id, by_remote, by_vpn, has_vpn, by_key, by_key_id, keys_in, key_if_any, in_slot, key_serials, shares_vpn}
-use Rattle.ov_model.specs.Step.{Outcome, replied, refused, peer_of, peer_new, peer_new_at, peer_new_with, peer_get, peer_get_of, remove_peer, removed_peer, removed_found, removed_at, key_new, key_new_at, key_made, key_new_found, key_new_place, hold_of, key_found, tx_found, tx_look, rx_peer, rx_found, rx_look, sent, sent_at, sent_live, sent_not_live, sent_dying, settle, settle_at, settle_live, settle_not_live, settle_dying, settled_as, command_step, act_step, is_there, has_key}
+use Rattle.ov_model.specs.Tables.{Peer, Key, Table, by_id, by_remote, by_vpn, has_vpn, by_key_id, keys_in, key_if_any, in_slot, key_serials, shares_vpn}
+use Rattle.ov_model.specs.Step.{Outcome, refused, peer_of, peer_new, peer_new_at, peer_new_with, peer_get, peer_get_of, remove_peer, removed_found, removed_at, key_new, key_made, key_new_found, key_new_place, hold_of, key_found, tx_found, tx_look, rx_found, rx_look, sent, sent_at, sent_live, sent_not_live, sent_dying, settle, settle_at, settle_live, settle_not_live, settle_dying, settled_as, command_step, act_step, is_there, has_key}
 use Rattle.ov_model.specs.Path.{removed}
-use Rattle.ov_model.proofs.KeysTaken.{key_made_by, Turns, turns}
-use Rattle.ov_path.specs.Desks.{IsLookReply, IsSettledReply}
+use Rattle.ov_model.proofs.KeysTaken.{key_made_by, turns}
+use Rattle.ov_path.specs.Desks.{IsLookReply}
 
 -- ---- counters
 

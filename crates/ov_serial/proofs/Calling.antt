@@ -1,46 +1,33 @@
 -- What a step of the table makes of the desk: one lemma for each kind of act.
-use Rattle.std.proofs.Common.{ℕ, ◌≡◌, ◌+◌, ◌≤◌, ◌<◌, ◌⊎◌, inl, inr, List, [], ◌∷◌, ◌++◌, length, get_or, refl, sym, ◌∙◌, ap, subst, arith, append-nil, length-append, Bool, true, false, ◌||◌, ◌&&◌}
-use Rattle.std.specs.Prelude.{map, max, Option, Some, None, ⊤, IsSome}
+use Rattle.std.proofs.Common.{ℕ, ◌≡◌, ◌+◌, ◌≤◌, List, [], ◌∷◌, ◌++◌, length, refl, sym, ◌∙◌, ap, subst, arith, length-append, Bool, true, ◌&&◌}
+use Rattle.std.specs.Prelude.{map, max}
 use Rattle.std.specs.List.{list_any}
-use Rattle.std.proofs.lemmas.Bool.{or_left, or_right}
+use Rattle.std.proofs.lemmas.Bool.{or_left}
 use Rattle.std.proofs.lemmas.List.{length-map}
-use Rattle.ov_base.specs.declared.address.Addr.{Addr}
-use Rattle.ov_base.specs.declared.address.Transport.{Transport}
-use Rattle.ov_model.specs.declared.ident.PeerId.{PeerId}
-use Rattle.ov_model.specs.declared.ident.KeyId.{KeyId}
 use Rattle.ov_model.specs.declared.place.Place.{Place}
-use Rattle.ov_model.specs.declared.command.Command.{Command}
 use Rattle.ov_model.specs.declared.act.Act.{Act}
 use Rattle.ov_model.specs.declared.act.Act.TheVariants as act
 use Rattle.ov_model.specs.declared.act.Call.{Call}
-use Rattle.ov_model.specs.declared.act.InnerKind.{InnerKind}
-use Rattle.ov_model.specs.declared.draw.Drawn.{Drawn}
 use Rattle.ov_model.specs.declared.draw.Drawn.TheVariants as drawn
 use Rattle.ov_model.specs.declared.hold.Owed.{Owed}
 use Rattle.ov_model.specs.declared.hold.Owed.TheVariants as owed
-use Rattle.ov_model.specs.declared.reply.HoldView.{HoldView}
 use Rattle.ov_model.specs.declared.reply.Reply.{Reply}
-use Rattle.ov_model.specs.declared.reply.Reply.TheVariants as reply
 use Rattle.ov_model.specs.declared.stand.Stand.{Stand}
 use Rattle.ov_model.specs.declared.stand.Stand.TheVariants as stand
-use Rattle.ov_model.specs.declared.stand.Use.TheVariants as used
-use Rattle.ov_model.specs.Tables.{Peer, Table, Material, key_serials}
-use Rattle.ov_model.specs.Step.{Outcome, step, act_step, may_act, is_there, has_key}
-use Rattle.ov_model.specs.Runs.{last_table}
-use Rattle.ov_model.specs.Events.{Event, Stepped, Step, steps_of}
-use Rattle.ov_model.specs.Path.{SomeOwed, removed, spent_taken, spent_reply}
-use Rattle.ov_model.specs.Next.{see, see_all, stand_of, is_killed}
-use Rattle.ov_model.specs.Keys.{key_of}
-use Rattle.ov_model.proofs.Removing.{serials, some_all, Joins, command_joins, Keeps, tx_look_keeps, rx_look_keeps, sent_keeps, settle_keeps, Spends, spend_spends}
+use Rattle.ov_model.specs.Tables.{Peer, Table, key_serials}
+use Rattle.ov_model.specs.Step.{step, may_act, is_there, has_key}
+use Rattle.ov_model.specs.Events.{Event, Stepped}
+use Rattle.ov_model.specs.Next.{see, see_all, stand_of}
+use Rattle.ov_model.proofs.Removing.{serials}
 use Rattle.ov_model.proofs.KeysTaken.{key_made_by}
-use Rattle.ov_path.specs.Desks.{Shown, Holding, NoHold, Both, PeerLeft, IsFree, IsDrawn, IsJudged, IsSpent, HoldsPeer, HoldsKey, MayCall, Called, Joins as JoinsOwed, IsReplyOf, IsLookReply, HasMaterial, Grows, held_after, stepped_as}
-use Rattle.ov_table.specs.Recorded.{Recorded, stepped, entry_of, IsTold, is_release}
+use Rattle.ov_path.specs.Desks.{Shown, Holding, NoHold, Both, PeerLeft, IsDrawn, IsJudged, IsSpent, HoldsPeer, HoldsKey, MayCall, Called, Joins as JoinsOwed, IsReplyOf, HasMaterial, Grows, held_after, stepped_as}
+use Rattle.ov_table.specs.Recorded.{stepped, entry_of, is_release}
 use Rattle.ov_table.proofs.Told.{told_step}
 use Rattle.ov_serial.specs.declared.past.Mark.TheVariants as mark
-use Rattle.ov_serial.specs.Desks.{Serial, shown_of, next_of, waiting, owing_of, material_of_desk, events_of, steps_marked, debt, killed_by, Ready, StandSound, HoldSound, IsHeldSound, Sound, HasStepped, Happened, SpentIsDry, SameNext, RoomAfter, step_made, after_step}
+use Rattle.ov_serial.specs.Desks.{Serial, shown_of, next_of, waiting, material_of_desk, steps_marked, debt, Ready, IsHeldSound, Sound, Happened, SpentIsDry, SameNext, RoomAfter, step_made, after_step}
 use Rattle.ov_serial.proofs.Marks.{shown_stepped, marked_step}
-use Rattle.ov_serial.proofs.Acts.{get_or_more, keys_made_by, Holds, Looks, tx_looks, rx_looks, sent_done, SettledReply, settle_says, Few, command_few}
-use Rattle.ov_serial.proofs.KeysKept.{key_of_more, key_below}
+use Rattle.ov_serial.proofs.Acts.{get_or_more, keys_made_by}
+use Rattle.ov_serial.proofs.Resting.{key_of_more}
 
 -- ---- small facts
 

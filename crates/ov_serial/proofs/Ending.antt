@@ -1,8 +1,7 @@
 -- A turn leaves fewer turns, and what happened since the line began goes on.
-use Rattle.std.proofs.Common.{ℕ, ◌≡◌, ◌+◌, ◌*◌, ◌≤◌, ◌<◌, List, [], ◌∷◌, ◌++◌, length, length-append, refl, sym, ◌∙◌, ap, subst, arith, true, false}
-use Rattle.std.specs.Prelude.{Option, Some, None, slice_get}
+use Rattle.std.proofs.Common.{ℕ, ◌≡◌, ◌+◌, ◌*◌, ◌≤◌, List, [], ◌∷◌, ◌++◌, length, length-append, refl, sym, ◌∙◌, ap, subst, arith, true, false}
+use Rattle.std.specs.Prelude.{Option, Some, slice_get}
 use Rattle.ov_model.specs.declared.place.Place.{Place}
-use Rattle.ov_model.specs.declared.act.Act.{Act}
 use Rattle.ov_model.specs.declared.draw.Drawn.TheVariants as drawn
 use Rattle.ov_model.specs.declared.hold.Owed.{Owed}
 use Rattle.ov_model.specs.declared.hold.Owed.TheVariants as owed
@@ -18,7 +17,7 @@ use Rattle.ov_model.specs.Events.{Event, Stepped, Judged, Drew, GaveKey, GavePee
 use Rattle.ov_model.specs.Next.{Ask, Table, request, asks, next, next_owing, release_act, see, judged_used, stand_of}
 use Rattle.ov_path.specs.declared.walk.Progress.{Progress}
 use Rattle.ov_path.specs.declared.walk.Progress.TheVariants.{More, Answered}
-use Rattle.ov_path.specs.Walks.{Walking, IsOpen, Made, MadeOrNone, made, nothing, MadeBy, Progressed, Trail}
+use Rattle.ov_path.specs.Walks.{Walking, Made, made, nothing, MadeBy, Progressed, Trail}
 use Rattle.ov_table.specs.Recorded.{is_release}
 use Rattle.ov_serial.specs.Desks.{Serial, Sound, Happened, RoomAfter, RoomGoes, shown_of, material_of_desk, itself, after_begin}
 use Rattle.ov_serial.specs.Lines.{Since, Rested}

@@ -1,6 +1,6 @@
 -- What the give-backs, the releases and a new line make of the desk.
-use Rattle.std.proofs.Common.{ℕ, ◌≡◌, ◌+◌, ◌-◌, ◌≤◌, ◌<◌, ◌⊎◌, inl, inr, List, [], ◌∷◌, ◌++◌, length, refl, sym, ◌∙◌, ap, subst, arith, append-nil, zero, suc, length-append, Bool, true, false}
-use Rattle.std.specs.Prelude.{map, max, drop, Option, Some, None, ⊤}
+use Rattle.std.proofs.Common.{ℕ, ◌≡◌, ◌+◌, ◌≤◌, ◌⊎◌, inl, inr, List, [], ◌∷◌, ◌++◌, length, refl, sym, ◌∙◌, ap, subst, arith, append-nil, length-append, true, false}
+use Rattle.std.specs.Prelude.{map, max, drop, Some, None}
 use Rattle.ov_model.specs.declared.place.Place.{Place}
 use Rattle.ov_model.specs.declared.act.Act.TheVariants as act
 use Rattle.ov_model.specs.declared.act.Call.{Call}
@@ -11,20 +11,18 @@ use Rattle.ov_model.specs.declared.hold.Owed.TheVariants as owed
 use Rattle.ov_model.specs.declared.reply.HoldView.{HoldView}
 use Rattle.ov_model.specs.declared.stand.Stand.{Stand}
 use Rattle.ov_model.specs.declared.stand.Stand.TheVariants as stand
-use Rattle.ov_model.specs.declared.stand.Use.{Use}
 use Rattle.ov_model.specs.declared.stand.Use.TheVariants as used
 use Rattle.ov_model.specs.Tables.{Peer, Key, Table, key_serials}
-use Rattle.ov_model.specs.Step.{step, may_act, released, key_released}
-use Rattle.ov_model.specs.Events.{Event, Stepped, GaveKey, GavePeer, Step, steps_of, release_of}
-use Rattle.ov_model.specs.Next.{see, stand_of}
+use Rattle.ov_model.specs.Step.{step, may_act, key_released}
+use Rattle.ov_model.specs.Events.{Stepped, GaveKey, GavePeer, Step, release_of}
+use Rattle.ov_model.specs.Next.{stand_of}
 use Rattle.ov_model.proofs.Removing.{serials, LetsGo, lets_go, LetsKeyGo, lets_key_go}
 use Rattle.ov_path.specs.Desks.{Shown, Holding, NoHold, Both, PeerLeft, HoldsKey, LeftPeer, peer_left, owed_if, first_owed, after_first}
-use Rattle.ov_table.specs.Recorded.{Recorded, stepped, entry_of, IsTold, is_release, first_waiting, waiting_of}
+use Rattle.ov_table.specs.Recorded.{stepped, entry_of, is_release, first_waiting, waiting_of}
 use Rattle.ov_table.proofs.Told.{told_step}
 use Rattle.ov_serial.specs.declared.past.Mark.TheVariants as mark
-use Rattle.ov_serial.specs.Desks.{Serial, shown_of, next_of, waiting, owing_of, material_of_desk, events_of, line_steps, steps_marked, debt, killed_by, HoldSound, IsHeldSound, Sound, Happened, SpentIsDry, RoomAfter, step_made, owed_by, given_where, after_key, after_peer, release_call, after_release, after_begin}
-use Rattle.ov_serial.proofs.Marks.{shown_stepped, shown_marked, marked_step, marked_other, length-steps_of}
-use Rattle.ov_serial.proofs.Calling.{no_peers, nothing_waits, seen}
+use Rattle.ov_serial.specs.Desks.{Serial, shown_of, waiting, owing_of, steps_marked, debt, killed_by, IsHeldSound, Sound, Happened, SpentIsDry, RoomAfter, step_made, owed_by, given_where, after_key, after_peer, release_call, after_release, after_begin}
+use Rattle.ov_serial.proofs.Marks.{shown_stepped, shown_marked, marked_step, marked_other}
 use Rattle.ov_serial.proofs.Marking.{MarkDone, shown_by}
 use Rattle.ov_serial.proofs.Acts.{keys_made_by}
 

@@ -1,27 +1,19 @@
--- The keys of a journal: one more entry takes none away, and each was made.
-use Rattle.std.proofs.Common.{ℕ, ◌≡◌, ◌+◌, ◌≤◌, ◌<◌, ◌⊎◌, inl, inr, List, [], ◌∷◌, ◌++◌, length, refl, sym, ◌∙◌, ap, arith, true, false, ◌==◌, if◌then◌else◌}
+-- Each key of a journal is below the number of keys that were made.
+use Rattle.std.proofs.Common.{ℕ, ◌≡◌, ◌+◌, ◌≤◌, ◌<◌, inl, inr, List, [], ◌∷◌, refl, sym, ◌∙◌, ap, arith, ◌==◌, if◌then◌else◌}
 use Rattle.std.specs.Prelude.{Option, Some, None, max}
 use Rattle.std.specs.Option.{option_or}
-use Rattle.std.proofs.lemmas.Bool.{cases_eq, eq-eqb, ne_eqb}
+use Rattle.std.proofs.lemmas.Bool.{cases_eq, ne_eqb}
 use Rattle.ov_model.specs.declared.act.Act.{Act}
 use Rattle.ov_model.specs.declared.act.Act.TheVariants as act
 use Rattle.ov_model.specs.declared.command.Command.TheVariants as command
 use Rattle.ov_model.specs.declared.reply.Reply.{Reply}
 use Rattle.ov_model.specs.declared.reply.Reply.TheVariants as reply
 use Rattle.ov_model.specs.declared.entry.Entry.{Entry}
-use Rattle.ov_model.specs.Tables.{Material, Table, empty_table}
+use Rattle.ov_model.specs.Tables.{Material, Table}
 use Rattle.ov_model.specs.Step.{step, Outcome}
-use Rattle.ov_model.specs.Runs.{Follows, IsRun, table_after, last_table}
+use Rattle.ov_model.specs.Runs.{Follows, table_after}
 use Rattle.ov_model.specs.Keys.{key_by, key_of, material_of}
-use Rattle.ov_model.proofs.KeysTaken.{key_made_by, Turns, turns}
-
-pub key_of_more : (es fs : List Entry) (key : ℕ) (m : Material) → key_of es key ≡ Some m → key_of (es ++ fs) key ≡ Some m
-key_of_more [] fs key m is = absurd (cc)
-key_of_more (e ∷ es) fs key m is =
-    elim (key_by e.call.act e.reply key) as (λ o. option_or o (key_of es key) ≡ Some m → option_or o (key_of (es ++ fs) key) ≡ Some m) [
-      | Some x ↦ λ h. h
-      | None ↦ λ h. key_of_more es fs key m h
-    ] is
+use Rattle.ov_model.proofs.KeysTaken.{key_made_by, turns}
 
 never_fewer : (t : Table) (es : List Entry) → t.keys_made ≤ (table_after t es).keys_made
 never_fewer t [] = omega arith

@@ -1,38 +1,28 @@
 -- What the other calls make of the desk: a replay step, a draw, the give-backs, a release, a new line.
-use Rattle.std.proofs.Common.{ℕ, ◌≡◌, ◌≢◌, ◌+◌, ◌-◌, ◌≤◌, ◌<◌, ◌%◌, ◌⊎◌, inl, inr, List, [], ◌∷◌, ◌++◌, length, get_or, refl, sym, ◌∙◌, ap, subst, arith, append-nil, zero, suc, Bool, true, false, nat_lt, if◌then◌else◌}
-use Rattle.std.specs.Prelude.{map, max, drop, Option, Some, None, ⊤, slice_get, slice_set, slice_index_or}
-use Rattle.std.proofs.lemmas.Bool.{cases_eq, cases_lt, lt-ltb}
+use Rattle.std.proofs.Common.{ℕ, ◌≡◌, ◌≢◌, ◌+◌, ◌-◌, ◌≤◌, ◌<◌, ◌%◌, ◌⊎◌, inl, inr, List, [], ◌∷◌, ◌++◌, length, get_or, refl, sym, ◌∙◌, ap, subst, arith, zero, suc, true, false, nat_lt, if◌then◌else◌}
+use Rattle.std.specs.Prelude.{Some, slice_get, slice_set, slice_index_or}
+use Rattle.std.proofs.lemmas.Bool.{cases_eq}
 use Rattle.std.proofs.lemmas.Bool.Decides.{nat_tests}
 use Rattle.ov_model.specs.declared.place.Place.{Place}
-use Rattle.ov_model.specs.declared.act.Act.{Act}
-use Rattle.ov_model.specs.declared.act.Act.TheVariants as act
-use Rattle.ov_model.specs.declared.act.Call.{Call}
 use Rattle.ov_model.specs.declared.draw.Drawn.{Drawn}
 use Rattle.ov_model.specs.declared.draw.Drawn.TheVariants as drawn
-use Rattle.ov_model.specs.declared.hold.Given.{Given}
-use Rattle.ov_model.specs.declared.hold.Given.TheVariants as given
 use Rattle.ov_model.specs.declared.hold.Owed.{Owed}
-use Rattle.ov_model.specs.declared.hold.Owed.TheVariants as owed
 use Rattle.ov_model.specs.declared.reply.HoldView.{HoldView}
-use Rattle.ov_model.specs.declared.replay.Verdict.{Verdict}
 use Rattle.ov_model.specs.declared.replay.Verdict.TheVariants as verdict
 use Rattle.ov_model.specs.declared.stand.Stand.{Stand}
 use Rattle.ov_model.specs.declared.stand.Stand.TheVariants as stand
-use Rattle.ov_model.specs.Tables.{Peer, Key, Table, Material, key_serials}
-use Rattle.ov_model.specs.Step.{may_act}
-use Rattle.ov_model.specs.Events.{Event, Stepped, Judged, Drew, GaveKey, GavePeer, Step, Judgement, judgement_of, steps_of, release_of}
+use Rattle.ov_model.specs.Tables.{Table}
+use Rattle.ov_model.specs.Events.{Event, Judged, Drew, Judgement}
 use Rattle.ov_model.specs.Next.{see, stand_of}
 use Rattle.ov_model.specs.Replay.{judged}
-use Rattle.ov_model.proofs.Removing.{serials, LetsGo, lets_go, LetsKeyGo, lets_key_go}
 use Rattle.ov_replay.specs.History.{History}
-use Rattle.ov_path.specs.Desks.{Shown, Holding, NoHold, Both, PeerLeft, IsLooked, HoldsKey, LeftPeer, with_event, peer_left, owed_if, first_owed, after_first}
-use Rattle.ov_table.specs.Recorded.{Recorded, stepped, IsTold, first_waiting, waiting_of}
-use Rattle.ov_table.proofs.Told.{told_step}
+use Rattle.ov_path.specs.Desks.{Shown, Holding, NoHold, Both, PeerLeft, IsLooked, HoldsKey}
+use Rattle.ov_table.specs.Recorded.{Recorded}
 use Rattle.ov_serial.specs.declared.past.Mark.{Mark}
 use Rattle.ov_serial.specs.declared.past.Mark.TheVariants as mark
-use Rattle.ov_serial.specs.Desks.{Serial, shown_of, next_of, waiting, owing_of, events_of, line_steps, steps_marked, debt, killed_by, Ready, HoldSound, IsHeldSound, Sound, Happened, SameNext, Draws, DrewId, step_made, drawn_of, next_after, judgement_at, after_judged, after_draw, given_where, after_key, after_peer, release_call, after_release, after_begin}
-use Rattle.ov_serial.proofs.Marks.{shown_stepped, shown_marked, marked_step, marked_other, length-steps_of}
-use Rattle.ov_serial.proofs.Calling.{no_peers, nothing_waits, seen, debt_most}
+use Rattle.ov_serial.specs.Desks.{Serial, shown_of, next_of, owing_of, steps_marked, debt, Ready, HoldSound, IsHeldSound, Sound, Happened, Draws, drawn_of, next_after, judgement_at, after_judged, after_draw}
+use Rattle.ov_serial.proofs.Marks.{shown_marked, marked_other}
+use Rattle.ov_serial.proofs.Calling.{seen, debt_most}
 
 -- What a call without a step is to leave.
 pub record MarkDone (d e : Serial) (event : Event) (hold : Holding) (owing : List Owed) : Type 0 where
@@ -213,10 +203,10 @@ draw_done d key sound names looked =
     let up_is : next_of e key ≡ next_after n = get_or_set d.next key (next_after n) d.first below in
     let within = next_within n range.1 in
     let dry : r ≡ drawn.Spent → next_of e key ≡ 4294967296 = λ spent.
-        elim (nat_lt n 4294967296) as (λ b. nat_lt n 4294967296 ≡ b → (if b then drawn.Id n else drawn.Spent) ≡ drawn.Spent → next_of e key ≡ (if b then n + 1 else n) → next_of e key ≡ 4294967296) [
-          | true ↦ λ is no up. absurd (cc)
-          | false ↦ λ is yes same. grind (arith, nat_tests)
-        ] refl spent up_is in
+    elim (nat_lt n 4294967296) as (λ b. nat_lt n 4294967296 ≡ b → (if b then drawn.Id n else drawn.Spent) ≡ drawn.Spent → next_of e key ≡ (if b then n + 1 else n) → next_of e key ≡ 4294967296) [
+      | true ↦ λ is no up. absurd (cc)
+      | false ↦ λ is yes same. grind (arith, nat_tests)
+    ] refl spent up_is in
     let lower : debt d.hold (see (stand_of (shown_of d).events) (Drew key r)) + 1 ≤ debt d.hold (stand_of (shown_of d).events) = draw_debt d.hold (stand_of (shown_of d).events) key r names looked in
     let spare : debt d.hold (stand_of (shown_of d).events) + length (shown_of d).owing ≤ d.room = sound.spare in
     let marks : steps_marked e.marks ≡ steps_marked d.marks = marked_other d.marks (mark.Drew key r) refl in

@@ -1,5 +1,5 @@
 -- The events of more marks, and the steps of a journal that goes on.
-use Rattle.std.proofs.Common.{ℕ, ◌≡◌, ◌+◌, ◌-◌, ◌≤◌, List, [], ◌∷◌, ◌++◌, length, refl, sym, ◌∙◌, ap, arith, zero, suc}
+use Rattle.std.proofs.Common.{ℕ, ◌≡◌, ◌+◌, ◌-◌, ◌≤◌, List, [], ◌∷◌, ◌++◌, length, refl, ◌∙◌, ap, arith, zero, suc}
 use Rattle.std.specs.Prelude.{drop}
 use Rattle.ov_model.specs.declared.place.Place.{Place}
 use Rattle.ov_model.specs.declared.act.Call.{Call}
@@ -9,7 +9,7 @@ use Rattle.ov_model.specs.Step.{step}
 use Rattle.ov_model.specs.Runs.{last_table}
 use Rattle.ov_model.specs.Events.{Event, Stepped, Judged, Drew, GaveKey, GavePeer, Step, steps_of, steps_after}
 use Rattle.ov_model.proofs.Going.{steps_after-append}
-use Rattle.ov_table.specs.Recorded.{Recorded, stepped, entry_of, IsTold}
+use Rattle.ov_table.specs.Recorded.{Recorded, stepped, entry_of}
 use Rattle.ov_serial.specs.declared.past.Mark.{Mark}
 use Rattle.ov_serial.specs.declared.past.Mark.TheVariants as mark
 use Rattle.ov_serial.specs.Desks.{Serial, events_of, steps_marked, line_steps, shown_of, step_made}

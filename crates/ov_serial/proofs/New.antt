@@ -3,7 +3,7 @@ use Rattle.std.proofs.Common.{ℕ, ◌≡◌, ◌+◌, ◌≤◌, List, [], ◌�
 use Rattle.std.specs.Prelude.{Some, slice_get}
 use Rattle.std.specs.List.{AllByRecursion}
 use Rattle.ov_replay.specs.History.{History}
-use Rattle.ov_serial.specs.Desks.{Serial, Sound, shards_to, new_shards, new_desk}
+use Rattle.ov_serial.specs.Desks.{Sound, shards_to, new_shards, new_desk}
 
 pub shards_more : (n : ℕ) → shards_to (n + 1) ≡ shards_to n ++ record { number = n; entries = [] } ∷ []
 shards_more n = rw add-one refl

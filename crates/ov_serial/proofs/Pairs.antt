@@ -1,12 +1,12 @@
 -- A key that is held and not used yet has its pair.
-use Rattle.std.proofs.Common.{ℕ, ◌≡◌, ◌∙◌, List, [], ◌∷◌, refl, sym, subst, ap, Bool, true, false, ◌||◌}
+use Rattle.std.proofs.Common.{ℕ, ◌≡◌, List, [], ◌∷◌, refl, sym, subst, ap, Bool, true, false, ◌||◌}
 use Rattle.std.specs.Prelude.{find, Option, Some, None, is_some, IsSome}
 use Rattle.std.specs.Option.{option_or}
 use Rattle.std.specs.List.{list_any}
 use Rattle.ov_model.specs.declared.stand.Stand.{Stand}
 use Rattle.ov_model.specs.declared.stand.Stand.TheVariants as stand
 use Rattle.ov_model.specs.declared.draw.Drawn.TheVariants as drawn
-use Rattle.ov_model.specs.Tables.{Key, Peer, Table, Material, by_key}
+use Rattle.ov_model.specs.Tables.{Key, Table, Material, by_key}
 use Rattle.ov_model.specs.Step.{has_key}
 use Rattle.ov_path.specs.Desks.{Holding, NoHold, Both, PeerLeft, HoldsKey, IsUnused}
 use Rattle.ov_table.specs.Pairs.{pair_in, live_key, key_of_peer, material_if_any, retired_key}

@@ -1,6 +1,6 @@
 -- Each kind of step of the table leaves the desk sound and has done what it is to do.
-use Rattle.std.proofs.Common.{ℕ, ◌≡◌, ◌+◌, ◌≤◌, ◌<◌, List, [], ◌∷◌, ◌++◌, length, refl, sym, ◌∙◌, ap, subst, arith, append-nil, length-append, Bool, true, false}
-use Rattle.std.specs.Prelude.{map, max, Option, Some, None, ⊤}
+use Rattle.std.proofs.Common.{ℕ, ◌≡◌, ◌≤◌, ◌<◌, List, [], ◌++◌, length, refl, sym, ◌∙◌, ap, subst, arith, length-append, Bool, true, false}
+use Rattle.std.specs.Prelude.{map, max, Option, Some, None, is_some}
 use Rattle.std.proofs.lemmas.List.{length-map}
 use Rattle.ov_base.specs.declared.address.Addr.{Addr}
 use Rattle.ov_base.specs.declared.address.Transport.{Transport}
@@ -23,20 +23,22 @@ use Rattle.ov_model.specs.declared.stand.Stand.TheVariants as stand
 use Rattle.ov_model.specs.declared.stand.Use.{Use}
 use Rattle.ov_model.specs.declared.stand.Use.TheVariants as used
 use Rattle.ov_model.specs.declared.reply.Settled.{Settled}
-use Rattle.ov_model.specs.Tables.{Peer, Table, Material, key_serials}
-use Rattle.ov_model.specs.Step.{Outcome, step, act_step, command_step, tx_look, rx_look, sent, settle, spend}
-use Rattle.ov_model.specs.Events.{Event, Stepped, Step}
+use Rattle.ov_model.specs.Tables.{Table, Material, key_serials}
+use Rattle.ov_model.specs.Step.{Outcome, step, command_step, tx_look, rx_look, sent, settle, spend}
+use Rattle.ov_model.specs.Events.{Stepped, Step}
 use Rattle.ov_model.specs.Path.{IsLook, SomeOwed, removed, spent_taken, spent_reply}
 use Rattle.ov_model.specs.Next.{see, stand_of, looked, is_killed}
 use Rattle.ov_model.specs.Keys.{key_of}
 use Rattle.ov_model.proofs.Removing.{serials, some_all, Joins, command_joins, Keeps, tx_look_keeps, rx_look_keeps, sent_keeps, settle_keeps, Spends, spend_spends}
-use Rattle.ov_path.specs.Desks.{Holding, NoHold, Both, PeerLeft, IsFree, IsDrawn, IsJudged, IsSpent, HoldsPeer, HoldsKey, MayCall, Joins as JoinsOwed, IsReplyOf, IsLookReply, IsSettledReply, IsSpendReply, HoldHas, HasMaterial, look_holds, held_after}
+use Rattle.ov_path.specs.Desks.{Holding, NoHold, Both, PeerLeft, IsFree, IsDrawn, IsJudged, IsSpent, HoldsPeer, HoldsKey, MayCall, IsLookReply, IsSettledReply, IsSpendReply, HoldHas, look_holds}
 use Rattle.ov_table.specs.Recorded.{Recorded, stepped, IsTold}
 use Rattle.ov_table.proofs.Told.{told_step}
-use Rattle.ov_serial.specs.Desks.{Serial, shown_of, next_of, waiting, owing_of, material_of_desk, killed_by, Ready, HoldSound, IsHeldSound, Sound, step_made, after_step}
+use Rattle.ov_serial.specs.Desks.{Serial, shown_of, waiting, owing_of, material_of_desk, killed_by, HoldSound, IsHeldSound, Sound, step_made, after_step}
 use Rattle.ov_serial.proofs.Acts.{Holds, Looks, tx_looks, rx_looks, sent_done, SettledReply, settle_says, Few, command_few}
-use Rattle.ov_serial.proofs.KeysKept.{key_of_more, key_below}
-use Rattle.ov_serial.proofs.Looking.{HoldReady, look_ready}
+use Rattle.ov_serial.proofs.KeysKept.{key_below}
+use Rattle.ov_table.specs.Pairs.{pair_in}
+use Rattle.ov_table.proofs.Installed.{pair_installed}
+use Rattle.ov_table.proofs.Held.{tx_held, rx_held}
 use Rattle.ov_serial.proofs.Calling.{no_peers, NoneWaits, none_waits, nothing_waits, seen, MaySpend, may_spend, may_call, made_now, CallDone, step_done, events_stepped, material_grows}
 
 -- ---- a desk that is free
@@ -347,9 +349,29 @@ call_done d place at (act.Spend peer key) r sound may reply_is installed = spend
 call_done d place at (act.Released peer) r sound may reply_is installed = absurd may
 call_done d place at (act.KeyReleased key) r sound may reply_is installed = absurd may
 
+-- ---- what a look-up holds was installed
+
+some_of : (o : Option Material) → is_some o ≡ true → (m : Material) × (o ≡ Some m)
+some_of (Some m) some = (m, refl)
+some_of None some = absurd (cc)
+
+look_installed : (r : Recorded) (place : Place) (at : ℕ) (a : Act) (v : HoldView) → IsLook a → (step r.now (record { at = at; act = a })).reply ≡ reply.Hold v → IsTold r → (m : Material) × (key_of (stepped r place (record { at = at; act = a })).journal v.key ≡ Some m)
+look_installed r place at (act.TxLook a) v look is told =
+    let call : Call = record { at = at; act = act.TxLook a } in
+    let pair = some_of (pair_in (step r.now call).after v.key) (tx_held r.now (max r.now.moment at) a v is) in
+    (pair.0, pair_installed (stepped r place call) v.key pair.0 (told_step r place call refl told) pair.1)
+look_installed r place at (act.RxLook id key_id from) v look is told =
+    let call : Call = record { at = at; act = act.RxLook id key_id from } in
+    let pair = some_of (pair_in (step r.now call).after v.key) (rx_held r.now (max r.now.moment at) id key_id from v is) in
+    (pair.0, pair_installed (stepped r place call) v.key pair.0 (told_step r place call refl told) pair.1)
+look_installed r place at (act.Do c) v look is told = absurd look
+look_installed r place at (act.Sent peer inner outer ping) v look is told = absurd look
+look_installed r place at (act.Settle peer from k inner outer) v look is told = absurd look
+look_installed r place at (act.Spend peer key) v look is told = absurd look
+look_installed r place at (act.Released serial) v look is told = absurd look
+look_installed r place at (act.KeyReleased serial) v look is told = absurd look
+
 -- The same of a call, with what the journal installed.
 pub any_call_done : (d : Serial) (place : Place) (call : Call) (r : Reply) → Sound d → MayCall (shown_of d) call.act → r ≡ (step d.table.now call).reply → CallDone d place call r
 any_call_done d place call r sound may reply_is =
-    call_done d place call.at call.act r sound may reply_is (λ look v is.
-        let ready : HoldReady (stepped d.table place call) v = look_ready d.table place call v look (sym reply_is ∙ is) sound.told in
-        (ready.material, ready.installed))
+    call_done d place call.at call.act r sound may reply_is (λ look v is. look_installed d.table place call.at call.act v look (sym reply_is ∙ is) sound.told)

@@ -1,13 +1,11 @@
 -- One turn of a line at the desk: what happened since it began goes on, and fewer turns are left.
-use Rattle.std.proofs.Common.{ℕ, ◌≡◌, ◌≢◌, ◌+◌, ◌*◌, ◌≤◌, ◌<◌, List, [], ◌∷◌, ◌++◌, length, length-append, refl, sym, ◌∙◌, ap, subst, arith, Bool, true, false}
+use Rattle.std.proofs.Common.{ℕ, ◌≡◌, ◌+◌, ◌≤◌, List, [], ◌∷◌, ◌++◌, length, length-append, refl, ◌∙◌, ap, arith, false}
 use Rattle.std.specs.Prelude.{Option, Some, None}
-use Rattle.ov_base.specs.declared.address.Addr.{Addr}
 use Rattle.ov_model.specs.declared.place.Place.{Place}
 use Rattle.ov_model.specs.declared.act.Act.TheVariants as act
 use Rattle.ov_model.specs.declared.draw.Drawn.{Drawn}
 use Rattle.ov_model.specs.declared.draw.Drawn.TheVariants as drawn
 use Rattle.ov_model.specs.declared.hold.Owed.{Owed}
-use Rattle.ov_model.specs.declared.hold.Owed.TheVariants as owed
 use Rattle.ov_model.specs.declared.reply.HoldView.{HoldView}
 use Rattle.ov_model.specs.declared.reply.Reply.TheVariants as reply
 use Rattle.ov_model.specs.declared.replay.Verdict.{Verdict}
@@ -22,12 +20,10 @@ use Rattle.ov_model.specs.declared.stand.Stand.TheVariants as stand
 use Rattle.ov_model.specs.Tables.{Material}
 use Rattle.ov_model.specs.Packets.{opened}
 use Rattle.ov_model.specs.Events.{Event, Stepped, Judged, Drew, GaveKey, GavePeer, Step}
-use Rattle.ov_model.specs.Next.{Ask, Table, Replay, Draw, GiveKey, GivePeer, Nil, Over as over, request, asks, asks_held, asks_open, asks_opened, asks_drawn, next, next_owing, release_act, see, stepped, stand_of, judged_as}
-use Rattle.ov_path.specs.Walks.{Walking, IsOpen, Made, AtJudged, Opens, Trail}
-use Rattle.ov_table.specs.Recorded.{is_release}
-use Rattle.ov_serial.specs.Desks.{Serial, Happened, RoomAfter, RoomGoes, shown_of, material_of_desk, itself}
-use Rattle.ov_serial.specs.Running.{stages_left, turns_left}
-use Rattle.ov_serial.proofs.Calling.{seen}
+use Rattle.ov_model.specs.Next.{Table, GiveKey, GivePeer, Over as over, request, asks_held, asks_opened, asks_drawn, see, stepped, judged_as}
+use Rattle.ov_path.specs.Walks.{AtJudged, Opens, Trail}
+use Rattle.ov_serial.specs.Desks.{itself}
+use Rattle.ov_serial.specs.Running.{stages_left}
 
 -- ---- a stage later
 
@@ -130,8 +126,19 @@ judged_two material place line h es os a at =
 
 judged_stays : (h : HoldView) (e : Event) (v : HoldView) → see (stand.Judged h) e ≡ stand.Looked v → ⊥
 judged_stays h (Stepped s) v is = elim s.entry.reply as (λ r. stepped (stand.Judged h) s.entry.call.act r ≡ stand.Looked v → ⊥) [
-  | reply.Made n ↦ λ e. cc | reply.Done ↦ λ e. cc | reply.Peer p ↦ λ e. cc | reply.Removed ns ↦ λ e. cc | reply.Hold x ↦ λ e. cc | reply.NoPeer ↦ λ e. cc | reply.NoKey ↦ λ e. cc
-  | reply.Settled x ↦ λ e. cc | reply.Killed ↦ λ e. cc | reply.AlreadyGone ↦ λ e. cc | reply.Released n ↦ λ e. cc | reply.KeyReleased n ↦ λ e. cc | reply.Refused x ↦ λ e. cc
+  | reply.Made n ↦ λ e. cc
+  | reply.Done ↦ λ e. cc
+  | reply.Peer p ↦ λ e. cc
+  | reply.Removed ns ↦ λ e. cc
+  | reply.Hold x ↦ λ e. cc
+  | reply.NoPeer ↦ λ e. cc
+  | reply.NoKey ↦ λ e. cc
+  | reply.Settled x ↦ λ e. cc
+  | reply.Killed ↦ λ e. cc
+  | reply.AlreadyGone ↦ λ e. cc
+  | reply.Released n ↦ λ e. cc
+  | reply.KeyReleased n ↦ λ e. cc
+  | reply.Refused x ↦ λ e. cc
 ] is
 judged_stays h (Judged j) v is = cc
 judged_stays h (Drew key d) v is = cc
@@ -140,8 +147,19 @@ judged_stays h (GavePeer peer g) v is = cc
 
 judged_draws : (h : HoldView) (e : Event) (v : HoldView) (d : Drawn) → see (stand.Judged h) e ≡ stand.Drew v d → ⊥
 judged_draws h (Stepped s) v d is = elim s.entry.reply as (λ r. stepped (stand.Judged h) s.entry.call.act r ≡ stand.Drew v d → ⊥) [
-  | reply.Made n ↦ λ e. cc | reply.Done ↦ λ e. cc | reply.Peer p ↦ λ e. cc | reply.Removed ns ↦ λ e. cc | reply.Hold x ↦ λ e. cc | reply.NoPeer ↦ λ e. cc | reply.NoKey ↦ λ e. cc
-  | reply.Settled x ↦ λ e. cc | reply.Killed ↦ λ e. cc | reply.AlreadyGone ↦ λ e. cc | reply.Released n ↦ λ e. cc | reply.KeyReleased n ↦ λ e. cc | reply.Refused x ↦ λ e. cc
+  | reply.Made n ↦ λ e. cc
+  | reply.Done ↦ λ e. cc
+  | reply.Peer p ↦ λ e. cc
+  | reply.Removed ns ↦ λ e. cc
+  | reply.Hold x ↦ λ e. cc
+  | reply.NoPeer ↦ λ e. cc
+  | reply.NoKey ↦ λ e. cc
+  | reply.Settled x ↦ λ e. cc
+  | reply.Killed ↦ λ e. cc
+  | reply.AlreadyGone ↦ λ e. cc
+  | reply.Released n ↦ λ e. cc
+  | reply.KeyReleased n ↦ λ e. cc
+  | reply.Refused x ↦ λ e. cc
 ] is
 judged_draws h (Judged j) v d is = cc
 judged_draws h (Drew key r) v d is = cc

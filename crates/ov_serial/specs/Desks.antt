@@ -18,7 +18,7 @@ use Rattle.ov_model.specs.declared.reply.HoldView.{HoldView}
 use Rattle.ov_model.specs.declared.stand.Stand.{Stand}
 use Rattle.ov_model.specs.declared.stand.Stand.TheVariants as stand
 use Rattle.ov_model.specs.declared.stand.Use.TheVariants as used
-use Rattle.ov_model.specs.Tables.{Peer, Table, Material, key_serials}
+use Rattle.ov_model.specs.Tables.{Table, Material, key_serials}
 use Rattle.ov_model.specs.Step.{step, May, is_there, has_key}
 use Rattle.ov_model.specs.Events.{Event, Stepped, Judged, Drew, GaveKey, GavePeer, Step, Judgement, steps_of, judgement_of}
 use Rattle.ov_model.specs.Next.{stand_of}

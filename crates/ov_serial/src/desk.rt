@@ -16,9 +16,7 @@ use crate::holding::Hold;
 use crate::past::{Judged, Mark, Past};
 use ov_base::{Addr, ListOf, Memory};
 use ov_keys::KeyPair;
-use ov_model::{
-    Act, Call, Drawn, Entry, Given, Note, Owed, Place, ReplayEntry, Reply, Verdict,
-};
+use ov_model::{Act, Call, Drawn, Entry, Given, Note, Owed, Place, ReplayEntry, Reply, Verdict};
 use ov_path::Desk;
 use ov_replay::Shard;
 use ov_table::Table;
@@ -231,10 +229,7 @@ fn new_shards(alloc: Global) -> Result<Vec<Shard>, Memory>
 }
 
 /// Closes the shards: their histories, in their order.
-fn finish_all(
-    alloc: Global,
-    shards: Vec<Shard>,
-) -> Result<ListOf<ListOf<ReplayEntry>>, Memory>
+fn finish_all(alloc: Global, shards: Vec<Shard>) -> Result<ListOf<ListOf<ReplayEntry>>, Memory>
     ensures histories { IfOk result (λ histories. histories ≡ spec.histories shards.items) }
     ensures judged { OnOk result (AllByRecursion (λ s. ShardJudges s.number s.entries) shards.items) }
 {

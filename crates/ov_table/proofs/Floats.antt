@@ -1,5 +1,5 @@
 -- A peer floats to a transport that is free, and else stays where it is.
-use Rattle.std.proofs.Common.{◌≡◌, refl, List, Bool, true, false, cond}
+use Rattle.std.proofs.Common.{◌≡◌, refl, List, true, false, cond}
 use Rattle.std.specs.Prelude.{Option, Some, None, is_some}
 use Rattle.ov_base.specs.declared.address.Transport.{Transport}
 use Rattle.ov_model.specs.Tables.{Peer, by_remote}

@@ -9,9 +9,8 @@ use Rattle.ov_base.specs.Address.{same_transport}
 use Rattle.ov_model.specs.declared.ident.PeerId.{PeerId}
 use Rattle.ov_model.specs.declared.ident.KeyId.{KeyId}
 use Rattle.ov_model.specs.declared.reply.HoldView.{HoldView}
-use Rattle.ov_model.specs.declared.reply.Reply.{Reply}
 use Rattle.ov_model.specs.declared.reply.Reply.TheVariants as reply
-use Rattle.ov_model.specs.Tables.{Material, Peer, Key, Table, by_key, keys_in, by_key_id, by_vpn, has_vpn, by_remote, by_id}
+use Rattle.ov_model.specs.Tables.{Material, Peer, Key, Table, keys_in, by_key_id, by_vpn, has_vpn, by_remote, by_id}
 use Rattle.ov_model.specs.Step.{Outcome, has_key, hold_of, key_found, tx_found, tx_look, rx_found, rx_look}
 use Rattle.ov_table.specs.Pairs.{key_of_peer, live_key, retired_key, material_if_any, pair_in}
 

@@ -1,5 +1,5 @@
 -- Each key that a told table still has is as the journal's key-new with its serial installed it.
-use Rattle.std.proofs.Common.{ℕ, ◌+◌, ◌≡◌, ◌≤◌, ◌<◌, ◌∙◌, sym, ap, List, [], ◌∷◌, ◌++◌, refl, subst, Bool, true, false, if◌then◌else◌, ◌==◌, arith, append-nil, append_assoc}
+use Rattle.std.proofs.Common.{ℕ, ◌+◌, ◌≡◌, ◌≤◌, ◌∙◌, sym, ap, List, [], ◌∷◌, ◌++◌, refl, subst, Bool, true, false, if◌then◌else◌, ◌==◌, arith, append-nil, append_assoc}
 use Rattle.std.specs.Prelude.{Option, Some, None, find, max}
 use Rattle.std.specs.List.{AllByRecursion}
 use Rattle.std.specs.Option.{option_or}
@@ -19,7 +19,7 @@ use Rattle.ov_model.specs.Runs.{Follows, table_after}
 use Rattle.ov_model.proofs.Lanes.{all_weaker}
 use Rattle.ov_table.specs.Pairs.{key_of_peer, live_key, retired_key, material_if_any, pair_in}
 use Rattle.ov_table.specs.Recorded.{Recorded, IsTold}
-use Rattle.ov_table.proofs.Kept.{OneHolds, SlotsHold, Holds, Keeps, KeyNewEnds, no, yes, new_key_ends, NoNewKey, act_keeps, slots_all}
+use Rattle.ov_table.proofs.Kept.{OneHolds, SlotsHold, Holds, KeyNewEnds, no, yes, new_key_ends, NoNewKey, act_keeps, slots_all}
 
 abbrev pub AsIn : List Entry → Key → Type 0
 AsIn journal k = key_of journal k.serial ≡ Some k.material

@@ -2,16 +2,13 @@
 use Rattle.std.proofs.Common.{ℕ, zero, suc, ◌≡◌, ◌+◌, List, [], ◌∷◌, ◌++◌, refl, subst, Bool, true, false, if◌then◌else◌, ◌==◌, ◌&&◌, nat_le}
 use Rattle.std.specs.Prelude.{Option, Some, None, is_none, is_some, position, slice_get, slice_set, remove, take, drop, find}
 use Rattle.std.specs.List.{AllByRecursion, list_any}
-use Rattle.ov_base.specs.declared.address.Addr.{Addr}
 use Rattle.ov_base.specs.declared.address.Transport.{Transport}
-use Rattle.ov_model.specs.declared.ident.PeerId.{PeerId}
 use Rattle.ov_model.specs.declared.ident.KeyId.{KeyId}
 use Rattle.ov_model.specs.declared.command.Attrs.{Attrs}
 use Rattle.ov_model.specs.declared.command.KeyConf.{KeyConf}
 use Rattle.ov_model.specs.declared.command.Reason.{Reason}
 use Rattle.ov_model.specs.declared.command.Slot.{Slot}
 use Rattle.ov_model.specs.declared.command.Slot.TheVariants.{Primary, Secondary}
-use Rattle.ov_model.specs.declared.act.InnerKind.{InnerKind}
 use Rattle.ov_model.specs.declared.command.Command.TheVariants as command
 use Rattle.ov_model.specs.declared.act.Act.{Act}
 use Rattle.ov_model.specs.declared.act.Act.TheVariants as act

@@ -1,6 +1,6 @@
 -- The outcome of an act where its peer has a place in its list.
 use Rattle.std.proofs.Common.{ℕ, ◌≡◌, [], ◌++◌, Bool, refl, append-nil}
-use Rattle.std.specs.Prelude.{Option, Some, None, position, slice_get, ◌==◌}
+use Rattle.std.specs.Prelude.{Option, Some, position, slice_get, ◌==◌}
 use Rattle.ov_model.specs.declared.ident.PeerId.{PeerId}
 use Rattle.ov_model.specs.declared.command.Reason.{Reason}
 use Rattle.ov_model.specs.Tables.{Table}

@@ -1,5 +1,5 @@
 -- One shard more is closed.
-use Rattle.std.proofs.Common.{rules, ◌≡◌, ◌∙◌, [], ◌∷◌, ◌++◌, sym, refl, ap, subst}
+use Rattle.std.proofs.Common.{rules, [], ◌∷◌, subst}
 use Rattle.std.proofs.lemmas.List.{map-append}
 use Rattle.ov_model.specs.Replay.{ShardJudges}
 use Rattle.ov_model.proofs.Lanes.{all_append}

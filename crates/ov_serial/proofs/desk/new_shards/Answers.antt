@@ -1,5 +1,5 @@
 -- One shard more.
-use Rattle.std.proofs.Common.{rules, ◌≡◌, ◌∙◌, sym}
+use Rattle.std.proofs.Common.{rules}
 use Rattle.ov_serial.proofs.New.{shards_more}
 use Rattle.ov_serial.proofs.desk.new_shards.Goals as goal
 

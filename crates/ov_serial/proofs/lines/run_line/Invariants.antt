@@ -1,4 +1,3 @@
-use Rattle.std.proofs.Common.{◌≡◌, ◌+◌}
 use Rattle.ov_serial.specs.Running.{GoesOn, turns_left}
 use Rattle.ov_serial.proofs.lines.run_line.Given as goal
 

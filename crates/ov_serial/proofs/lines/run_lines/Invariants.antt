@@ -1,4 +1,3 @@
-use Rattle.std.proofs.Common.{◌≡◌, length}
 use Rattle.ov_serial.specs.Running.{Between}
 use Rattle.ov_serial.proofs.lines.run_lines.Given as goal
 

@@ -1,7 +1,7 @@
 -- One turn.
-use Rattle.std.proofs.Common.{◌≡◌, sym, refl, subst}
+use Rattle.std.proofs.Common.{subst}
 use Rattle.ov_model.specs.declared.place.Place.{Place}
-use Rattle.ov_path.specs.Walks.{Walking, Progressed}
+use Rattle.ov_path.specs.Walks.{Progressed}
 use Rattle.ov_serial.specs.Desks.{shown_of, material_of_desk, itself}
 use Rattle.ov_serial.proofs.Ending.{turned}
 use Rattle.ov_serial.proofs.lines.turn.Goals as goal

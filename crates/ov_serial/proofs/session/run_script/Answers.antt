@@ -1,15 +1,15 @@
 -- All lines were run on lane 0, and the report has what they did.
-use Rattle.std.proofs.Common.{ℕ, ◌≡◌, ◌∙◌, List, ◌∷◌, ◌++◌, [], length, refl, sym, subst, ap}
+use Rattle.std.proofs.Common.{◌≡◌, ◌∙◌, List, ◌∷◌, ◌++◌, [], subst, ap}
 use Rattle.ov_model.specs.declared.line.Line.{Line}
 use Rattle.ov_model.specs.declared.answer.Answer.{Answer}
 use Rattle.ov_model.specs.declared.report.Report.{Report}
 use Rattle.ov_model.specs.declared.report.LaneLog.{LaneLog}
 use Rattle.ov_model.specs.declared.report.Unsent.{Unsent}
 use Rattle.ov_model.specs.Keys.{IdsCount}
-use Rattle.ov_model.specs.Legal.{Legal, RemovalsAreNoted, ShardsJudge}
+use Rattle.ov_model.specs.Legal.{ShardsJudge}
 use Rattle.ov_serial.specs.Desks.{Serial, Sound, histories}
 use Rattle.ov_serial.specs.Lines.{Rested, AllJudge}
-use Rattle.ov_serial.proofs.Reporting.{one_log, report_of, report_is, none_waits, legal_as, noted, shards_judge, ids_count}
+use Rattle.ov_serial.proofs.Reporting.{report_of, report_is, none_waits, legal_as, noted, shards_judge, ids_count}
 use Rattle.ov_serial.proofs.session.run_script.Goals as goal
 
 abbrev desk : (c : goal.After-of_vec-2) → Serial
@@ -30,7 +30,7 @@ log lines answers unsent = record { lines = lines; answers = answers; recorded =
 is : (c : goal.After-of_vec-2) → report_of (desk c) (lines c) (answers c) ≡ report c
 is c = report_is (desk c) (lines c) (answers c) (report c)
     (c.of_vec-2.ensures ∙ c.in_ok-push.ensures.items ∙ ap (λ xs. xs ++ log (lines c) c.of_vec.result c.new-2.result ∷ []) c.new-lanes.ensures.items
-      ∙ ap (λ a. log (lines c) a c.new-2.result ∷ []) c.of_vec.ensures ∙ ap (λ u. log (lines c) (answers c) u ∷ []) c.new-2.ensures)
+    ∙ ap (λ a. log (lines c) a c.new-2.result ∷ []) c.of_vec.ensures ∙ ap (λ u. log (lines c) (answers c) u ∷ []) c.new-2.ensures)
     c.in_ok-journal.ensures.journal c.in_ok-journal.ensures.notes c.in_ok-journal.ensures.shards
 
 rested : (c : goal.After-of_vec-2) → Rested (desk c) (lines c) (answers c)

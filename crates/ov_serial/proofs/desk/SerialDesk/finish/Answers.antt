@@ -1,9 +1,8 @@
 -- Each shard judges, by its number.
-use Rattle.std.proofs.Common.{◌≡◌, ◌∙◌, sym, refl, subst, ap}
+use Rattle.std.proofs.Common.{sym, subst}
 use Rattle.ov_model.specs.Replay.{ShardJudges}
 use Rattle.ov_replay.specs.History.{History}
 use Rattle.ov_serial.specs.Lines.{AllJudge}
-use Rattle.ov_serial.specs.Desks.{histories}
 use Rattle.ov_serial.proofs.New.{all_at}
 use Rattle.ov_serial.proofs.Reporting.{all_judge}
 use Rattle.ov_serial.proofs.desk.SerialDesk.finish.Goals as goal

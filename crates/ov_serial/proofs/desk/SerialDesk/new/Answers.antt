@@ -1,5 +1,5 @@
 -- A new desk is sound.
-use Rattle.std.proofs.Common.{◌≡◌, ◌≤◌, ◌∙◌, sym, refl, subst, ap, arith}
+use Rattle.std.proofs.Common.{◌≡◌, sym, refl, subst, ap, arith}
 use Rattle.ov_serial.specs.Pasts.{Past}
 use Rattle.ov_path.specs.Desks.{NoHold}
 use Rattle.ov_serial.specs.Desks.{Serial, Sound, new_desk}

@@ -1,6 +1,6 @@
 -- A draw.
-use Rattle.std.proofs.Common.{◌≡◌, ◌<◌, ℕ, sym, refl, subst, ◌∙◌, ap, slice_set, List, [], ◌∷◌, ◌++◌}
-use Rattle.ov_model.specs.Events.{Event, Drew}
+use Rattle.std.proofs.Common.{◌≡◌, sym, refl, subst, ◌∙◌, ap, slice_set, [], ◌∷◌, ◌++◌}
+use Rattle.ov_model.specs.Events.{Drew}
 use Rattle.ov_model.specs.Next.{stand_of}
 use Rattle.ov_path.specs.Desks.{HoldsKey, IsLooked, with_event}
 use Rattle.ov_serial.specs.declared.past.Mark.TheVariants as mark

@@ -1,9 +1,8 @@
 -- Giving back the peer.
-use Rattle.std.proofs.Common.{◌≡◌, ◌<◌, ◌%◌, ◌-◌, ℕ, sym, refl, subst, ◌∙◌, ap, slice_set, List, [], ◌∷◌, ◌++◌, arith}
-use Rattle.ov_serial.specs.declared.past.Mark.TheVariants as mark
+use Rattle.std.proofs.Common.{◌≡◌, ℕ, sym, refl, subst, ◌∙◌, ap, [], ◌∷◌, ◌++◌}
 use Rattle.ov_serial.specs.contracts.desk.SerialDesk.{the_view}
 use Rattle.ov_model.specs.declared.hold.Given.TheVariants as given
-use Rattle.ov_model.specs.Events.{Event, GavePeer}
+use Rattle.ov_model.specs.Events.{GavePeer}
 use Rattle.ov_path.specs.Desks.{Shown, NoHold, LeftPeer}
 use Rattle.ov_serial.specs.Desks.{Serial, Sound, shown_of, after_peer}
 use Rattle.ov_serial.proofs.Marking.{MarkDone, same_desk, one_less}

@@ -1,10 +1,10 @@
 -- Giving back the key.
-use Rattle.std.proofs.Common.{◌≡◌, ◌<◌, ◌%◌, ◌-◌, ℕ, sym, refl, subst, ◌∙◌, ap, slice_set, List, [], ◌∷◌, ◌++◌, arith}
+use Rattle.std.proofs.Common.{◌≡◌, ℕ, sym, refl, subst, ◌∙◌, ap, [], ◌∷◌, ◌++◌}
 use Rattle.ov_serial.specs.declared.past.Mark.TheVariants as mark
 use Rattle.ov_serial.specs.contracts.desk.SerialDesk.{the_view}
 use Rattle.ov_model.specs.declared.hold.Given.{Given}
 use Rattle.ov_model.specs.declared.hold.Owed.TheVariants as owed
-use Rattle.ov_model.specs.Events.{Event, GaveKey}
+use Rattle.ov_model.specs.Events.{GaveKey}
 use Rattle.ov_path.specs.Desks.{Shown, HoldsKey, owed_if, peer_left}
 use Rattle.ov_table.specs.Recorded.{first_waiting}
 use Rattle.ov_serial.specs.Desks.{Serial, Sound, shown_of, holding, given_where, after_key}

@@ -1,5 +1,5 @@
 -- What the table still has of a key.
-use Rattle.std.proofs.Common.{◌≡◌, ℕ, sym, refl, subst, ◌∙◌, ap}
+use Rattle.std.proofs.Common.{◌≡◌, sym, subst, ◌∙◌}
 use Rattle.std.specs.Prelude.{Some, Option, IsSome}
 use Rattle.ov_model.specs.Tables.{Material}
 use Rattle.ov_model.specs.Next.{stand_of}

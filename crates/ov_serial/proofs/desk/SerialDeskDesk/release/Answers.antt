@@ -1,6 +1,5 @@
 -- A release.
-use Rattle.std.proofs.Common.{◌≡◌, ◌<◌, ◌%◌, ◌-◌, ℕ, sym, refl, subst, ◌∙◌, ap, slice_set, List, [], ◌∷◌, ◌++◌, arith, true}
-use Rattle.ov_serial.specs.declared.past.Mark.TheVariants as mark
+use Rattle.std.proofs.Common.{◌≡◌, sym, refl, subst, ◌∙◌, ap, [], ◌∷◌, ◌++◌, true}
 use Rattle.ov_serial.specs.contracts.desk.SerialDesk.{the_view}
 use Rattle.std.specs.Prelude.{Some}
 use Rattle.ov_model.specs.Step.{may_act}
@@ -8,7 +7,7 @@ use Rattle.ov_model.specs.Events.{Event, Stepped, release_of}
 use Rattle.ov_path.specs.Desks.{Shown, first_owed, after_first, Grows}
 use Rattle.ov_table.specs.Recorded.{stepped}
 use Rattle.ov_serial.specs.Desks.{Serial, Sound, Happened, shown_of, material_of_desk, release_call, after_release}
-use Rattle.ov_serial.proofs.KeysKept.{key_of_more}
+use Rattle.ov_serial.proofs.Resting.{key_of_more}
 use Rattle.ov_serial.proofs.Marking.{MarkDone, same_desk, one_less}
 use Rattle.ov_serial.proofs.Giving.{release_may, release_done}
 use Rattle.ov_serial.proofs.desk.SerialDeskDesk.release.Goals as goal

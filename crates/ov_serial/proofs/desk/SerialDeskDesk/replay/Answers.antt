@@ -1,15 +1,14 @@
 -- A replay step.
-use Rattle.std.proofs.Common.{◌≡◌, ◌<◌, ◌%◌, ◌-◌, ℕ, sym, refl, subst, ◌∙◌, ap, slice_set, List, [], ◌∷◌, ◌++◌, arith}
+use Rattle.std.proofs.Common.{◌≡◌, ◌%◌, sym, refl, subst, ◌∙◌, ap, slice_set, [], ◌∷◌, ◌++◌}
 use Rattle.ov_serial.specs.declared.past.Mark.TheVariants as mark
 use Rattle.ov_serial.specs.contracts.desk.SerialDesk.{the_view}
-use Rattle.std.specs.Prelude.{Some, slice_get, get_or}
+use Rattle.std.specs.Prelude.{Some, slice_get}
 use Rattle.ov_model.specs.declared.replay.Verdict.{Verdict}
 use Rattle.ov_serial.specs.Pasts.{Past}
-use Rattle.ov_model.specs.Events.{Event, Judged, Judgement}
+use Rattle.ov_model.specs.Events.{Judged, Judgement}
 use Rattle.ov_model.specs.Next.{stand_of}
 use Rattle.ov_model.specs.Replay.{judged}
-use Rattle.ov_replay.specs.History.{History}
-use Rattle.ov_path.specs.Desks.{Shown, HoldsKey, IsLooked, with_event}
+use Rattle.ov_path.specs.Desks.{HoldsKey, IsLooked, with_event}
 use Rattle.ov_serial.specs.Desks.{Serial, Sound, Happened, shown_of, judgement_at, after_judged}
 use Rattle.ov_serial.proofs.Marking.{MarkDone, replay_done, same_desk, read_shard, below_eight, room_left}
 use Rattle.ov_serial.proofs.desk.SerialDeskDesk.replay.Goals as goal
@@ -51,7 +50,7 @@ is : (c : goal.After-push) → now c ≡ after_judged (was c) c.index_mut.result
 is c = same_desk (now c) (after_judged (was c) c.index_mut.result.now c.args.place c.args.key c.args.id c.args.at) refl
     (ap (λ s. slice_set (was c).shards (c.args.key % 8) s) c.in_ok-verdict.ensures.ok) refl refl
     (c.push.ensures.marks ∙ ap (λ (r : Past). r.marks ++ mark.Judged (record { place = c.args.place; key = c.args.key; id = c.args.id; at = c.args.at; verdict = c.in_ok-verdict.verdict }) ∷ []) c.in_ok-reserve.ensures.ok
-      ∙ ap (λ v. (was c).marks ++ mark.Judged (record { place = c.args.place; key = c.args.key; id = c.args.id; at = c.args.at; verdict = v }) ∷ []) (verdict_is c))
+    ∙ ap (λ v. (was c).marks ++ mark.Judged (record { place = c.args.place; key = c.args.key; id = c.args.id; at = c.args.at; verdict = v }) ∷ []) (verdict_is c))
     (room_left c.push.new.self.room c.reserve.new.self.room 9 c.push.ensures.room (ap (λ (r : Past). r.room) c.in_ok-reserve.ensures.ok)) refl refl
 
 pub invariant_of-self-2 : goal.invariant_of-self-2
