@@ -321,3 +321,73 @@ fn a_bad_line_is_told_by_its_number_and_runs_nothing(rt: HostRuntime) -> Result<
     }
     Ok(())
 }
+
+#[test]
+fn an_id_2048_below_the_greatest_is_old(rt: HostRuntime) -> Result<(), Fail> {
+    gives(
+        &rt,
+        rt.alloc(),
+        &[
+            PEER5,
+            KEY5,
+            r#"{"at":0,"datagram":"4a00000500000bb8660a952bdbf773f72aa57b6969b9ef8262fbe881ef90c67deecd6a5f06c6bd24a7d07c43","do":"rx","from":{"addr":"192.0.2.1","port":1194},"lane":0}"#,
+            r#"{"at":0,"datagram":"4a000005000003b98d1cd491d49c9ddfb89d898f69e4a5832acdcac9229577e37779b641da445ad809099c59","do":"rx","from":{"addr":"192.0.2.1","port":1194},"lane":0}"#,
+            r#"{"at":0,"datagram":"4a000005000003b861ab604718c1fcaa16e97c21375f46234237022cb00fc604ef28100e681ca6e0af540ab9","do":"rx","from":{"addr":"192.0.2.1","port":1194},"lane":0}"#,
+            r#"{"at":0,"datagram":"4a00000500000000d79f68756c8320fecea3fa36f1e327dc715bb018af39ac2f81f4b5aa4e071cfe1ad7b263","do":"rx","from":{"addr":"192.0.2.1","port":1194},"lane":0}"#,
+        ],
+        &[
+            PEER_MADE,
+            KEY_MADE,
+            r#"{"at":0,"call":"rx-look","journal":2,"lane":0,"line":2,"reply":{"hold":{"key":0,"peer":0}}}"#,
+            r#"{"at":0,"call":"settle","journal":3,"lane":0,"line":2,"reply":{"settled":"deliver"}}"#,
+            r#"{"at":0,"call":"rx-look","journal":4,"lane":0,"line":3,"reply":{"hold":{"key":0,"peer":0}}}"#,
+            r#"{"at":0,"call":"settle","journal":5,"lane":0,"line":3,"reply":{"settled":"deliver"}}"#,
+            r#"{"at":0,"call":"rx-look","journal":6,"lane":0,"line":4,"reply":{"hold":{"key":0,"peer":0}}}"#,
+            r#"{"at":0,"call":"rx-look","journal":7,"lane":0,"line":5,"reply":{"hold":{"key":0,"peer":0}}}"#,
+            r#"{"at":0,"id":3000,"key":0,"lane":0,"line":2,"moment":0,"shard":0,"verdict":"accept"}"#,
+            r#"{"at":0,"id":953,"key":0,"lane":0,"line":3,"moment":0,"shard":0,"verdict":"accept"}"#,
+            r#"{"at":0,"id":952,"key":0,"lane":0,"line":4,"moment":0,"shard":0,"verdict":"old"}"#,
+            r#"{"at":0,"id":0,"key":0,"lane":0,"line":5,"moment":0,"shard":0,"verdict":"zero"}"#,
+            PEER_ANSWER,
+            KEY_ANSWER,
+            r#"{"answer":{"delivered":{"packet":"4500001400000000401100000a0800050a080005","peer":5}},"lane":0,"line":2}"#,
+            r#"{"answer":{"delivered":{"packet":"4500001400000000401100000a0800050a080005","peer":5}},"lane":0,"line":3}"#,
+            r#"{"answer":{"dropped":"old"},"lane":0,"line":4}"#,
+            r#"{"answer":{"dropped":"zero"},"lane":0,"line":5}"#,
+            r#"{"summary":{"accepted":2,"answers":6,"bad-tag":0,"delivered":2,"journal":8,"keys":1,"keys-differ":true,"notes":0,"peers":1,"refused":2,"released":0,"sealed":0}}"#,
+        ],
+    )
+}
+
+#[test]
+fn what_came_before_a_silence_of_thirty_seconds_is_over(rt: HostRuntime) -> Result<(), Fail> {
+    gives(
+        &rt,
+        rt.alloc(),
+        &[
+            PEER5,
+            KEY5,
+            r#"{"at":0,"datagram":"4a0000050000000a83ace701b7176ff4438fac7d5b582f45101b5c97059c9bc3177a1124c550df74f188be29","do":"rx","from":{"addr":"192.0.2.1","port":1194},"lane":0}"#,
+            r#"{"at":29,"datagram":"4a00000500000009f9b19d7f17a2b1e8cb78ff1592535fcd88768cc913ca954934db38cbbcec9906f53c6aea","do":"rx","from":{"addr":"192.0.2.1","port":1194},"lane":0}"#,
+            r#"{"at":59,"datagram":"4a0000050000000812e980a2cb95414c7daddb82e3f4f9e3cf48dab30a4d410ef7738d026280d97926c80878","do":"rx","from":{"addr":"192.0.2.1","port":1194},"lane":0}"#,
+        ],
+        &[
+            PEER_MADE,
+            KEY_MADE,
+            r#"{"at":0,"call":"rx-look","journal":2,"lane":0,"line":2,"reply":{"hold":{"key":0,"peer":0}}}"#,
+            r#"{"at":0,"call":"settle","journal":3,"lane":0,"line":2,"reply":{"settled":"deliver"}}"#,
+            r#"{"at":29,"call":"rx-look","journal":4,"lane":0,"line":3,"reply":{"hold":{"key":0,"peer":0}}}"#,
+            r#"{"at":29,"call":"settle","journal":5,"lane":0,"line":3,"reply":{"settled":"deliver"}}"#,
+            r#"{"at":59,"call":"rx-look","journal":6,"lane":0,"line":4,"reply":{"hold":{"key":0,"peer":0}}}"#,
+            r#"{"at":0,"id":10,"key":0,"lane":0,"line":2,"moment":0,"shard":0,"verdict":"accept"}"#,
+            r#"{"at":29,"id":9,"key":0,"lane":0,"line":3,"moment":29,"shard":0,"verdict":"accept"}"#,
+            r#"{"at":59,"id":8,"key":0,"lane":0,"line":4,"moment":59,"shard":0,"verdict":"below"}"#,
+            PEER_ANSWER,
+            KEY_ANSWER,
+            r#"{"answer":{"delivered":{"packet":"4500001400000000401100000a0800050a080005","peer":5}},"lane":0,"line":2}"#,
+            r#"{"answer":{"delivered":{"packet":"4500001400000000401100000a0800050a080005","peer":5}},"lane":0,"line":3}"#,
+            r#"{"answer":{"dropped":"below"},"lane":0,"line":4}"#,
+            r#"{"summary":{"accepted":2,"answers":5,"bad-tag":0,"delivered":2,"journal":7,"keys":1,"keys-differ":true,"notes":0,"peers":1,"refused":1,"released":0,"sealed":0}}"#,
+        ],
+    )
+}
