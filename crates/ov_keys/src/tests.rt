@@ -1,8 +1,7 @@
 //! That each call does what its contract says, once on each of its ways.
 
 use crate::{KeyPair, KeyRec, Slots};
-use ov_aes::KeyBytes;
-use ov_model::{KeyConf, KeyDir, KeyId, PeerId, Slot};
+use ov_model::{KeyBytes, KeyConf, KeyDir, KeyId, PeerId, Slot};
 use std::process::Abort;
 use std::test::Fail;
 

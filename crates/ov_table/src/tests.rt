@@ -1,11 +1,10 @@
 //! What no clause says: which refusals the family gives where, and that the calls succeed.
 
 use crate::Table;
-use ov_aes::KeyBytes;
 use ov_base::{Addr, Memory, Transport};
 use ov_model::{
-    Act, Attrs, Call, Command, Errno, HoldView, InnerKind, KeyConf, KeyDir, KeyId, Note, NoteBody,
-    PeerId, Place, Reason, Reply, Settled, Slot,
+    Act, Attrs, Call, Command, Errno, HoldView, InnerKind, KeyBytes, KeyConf, KeyDir, KeyId, Note,
+    NoteBody, PeerId, Place, Reason, Reply, Settled, Slot,
 };
 use std::process::Abort;
 use std::test::Fail;
@@ -248,31 +247,32 @@ fn a_look_up_holds_the_peer_and_its_key(rt: HostRuntime) -> Result<(), Fail> {
     two_peers(&rt, &mut table)?;
     let five = PeerId::new(5).expect(&rt, "an id in range");
     let none = PeerId::new(16_777_215).expect(&rt, "an id in range");
-    let ids = [0, 1, 2].map(|n| KeyId::new(n).expect(&rt, "an id in range"));
+    let first = KeyId::new(0).expect(&rt, "an id in range");
+    let second = KeyId::new(1).expect(&rt, "an id in range");
+    let third = KeyId::new(2).expect(&rt, "an id in range");
     let from = transport([192, 0, 2, 5]);
-    let hold = |key| {
+    let hold = |key, key_id| {
         Reply::Hold(HoldView {
             peer: 0,
             id: five,
             key,
-            key_id: ids[key as usize],
+            key_id,
             to: from,
         })
     };
-    let look = |id, key: usize, from| Act::RxLook {
-        id,
-        key_id: ids[key],
-        from,
-    };
+    let look = |id, key_id, from| Act::RxLook { id, key_id, from };
     for (act, wanted) in [
-        (Act::TxLook(Addr::V4([10, 8, 0, 5])), hold(0)),
+        (Act::TxLook(Addr::V4([10, 8, 0, 5])), hold(0, first)),
         (Act::TxLook(Addr::V4([10, 8, 0, 6])), Reply::NoKey),
         (Act::TxLook(Addr::V4([10, 8, 0, 7])), Reply::NoPeer),
-        (look(five, 0, from), hold(0)),
-        (look(five, 1, transport([192, 0, 2, 9])), hold(1)),
-        (look(five, 2, from), Reply::NoKey),
-        (look(none, 1, from), hold(1)),
-        (look(none, 1, transport([192, 0, 2, 9])), Reply::NoPeer),
+        (look(five, first, from), hold(0, first)),
+        (
+            look(five, second, transport([192, 0, 2, 9])),
+            hold(1, second),
+        ),
+        (look(five, third, from), Reply::NoKey),
+        (look(none, second, from), hold(1, second)),
+        (look(none, second, transport([192, 0, 2, 9])), Reply::NoPeer),
     ] {
         assert_eq!(rt; make(&mut table, 1, act)?, wanted);
     }
