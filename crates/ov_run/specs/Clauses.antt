@@ -79,12 +79,18 @@ pub record WrotePart (before now : Option (List ℕ)) (report : Option Report) :
 abbrev pub ComesFrom : Option (List ℕ) → Option (List ℕ) → Event → Type 0
 ComesFrom before now event = (taken : List ℕ) → Gave before now taken → Early taken 1 event ⊎ ((now ≡ Some []) × Stop taken 1 event)
 
+-- What was written where memory was wanting: nothing before there was a report, and then a part of its
+-- text, from the front and not to the end.
+abbrev pub WroteNoMore : Option (List ℕ) → Option (List ℕ) → Option Report → Type 0
+WroteNoMore old new None = new ≡ old
+WroteNoMore old new (Some report) = AppendsPart old new (report_text report)
+
 -- What a run that read its script whole ended with: all of the report's text was written, or a part of it
--- where a write failed, or nothing for want of memory.
+-- where a write failed or memory was wanting, or nothing where there was no memory for the report.
 abbrev pub EndsBy : Option (List ℕ) → Option (List ℕ) → ℕ → ℕ → Option Report → Cause → Type 0
 EndsBy old new before now report cause.Fine = Wrote old new report
 EndsBy old new before now report cause.WriteFault = Rose before now × WrotePart old new report
-EndsBy old new before now report cause.Memory = new ≡ old
+EndsBy old new before now report cause.Memory = WroteNoMore old new report
 EndsBy old new before now report cause.Usage = ⊥
 EndsBy old new before now report (cause.BadLine n) = ⊥
 EndsBy old new before now report (cause.Limit l) = ⊥

@@ -12,11 +12,11 @@ ghost use Rattle.ov_run.specs.declared.ended.Cause.TheVariants as cause;
 ghost use Rattle.ov_run.specs.Clauses as spec;
 
 use crate::ended::{Cause, Ended};
-use ov_base::{Sink, Source, write_all};
+use ov_base::{Sink, Source};
 use ov_json::{ReadStop, Reading, read_script};
 use ov_model::Script;
 use ov_serial::run_script;
-use ov_text::text_of;
+use ov_text::{PrintStop, print_report};
 use std::alloc::Global;
 
 /// The first packet id that each key sends: a nonce of 0 is never used.
@@ -67,12 +67,10 @@ fn trace<K: Sink>(alloc: Global, script: Script, read_lines: u64, sink: &mut K) 
             };
         }
     };
-    let cause = match text_of(alloc, &report) {
-        Err(_) => Cause::Memory,
-        Ok(text) => match write_all(sink, text.as_slice()) {
-            Ok(()) => Cause::Fine,
-            Err(_) => Cause::WriteFault,
-        },
+    let cause = match print_report(alloc, &report, sink) {
+        Ok(()) => Cause::Fine,
+        Err(PrintStop::Write) => Cause::WriteFault,
+        Err(PrintStop::Memory) => Cause::Memory,
     };
     Ended {
         cause,
@@ -106,7 +104,7 @@ pub fn run_serial<S: Source, K: Sink>(
     ensures outcome { IfSome result.report (spec.Reported (S.left source.old) (S.left source.new)) }
     ensures fine { result.cause ≡ cause.Fine → spec.Wrote (K.written sink.old) (K.written sink.new) result.report }
     ensures write_fault { result.cause ≡ cause.WriteFault → Rose (K.faults sink.old) (K.faults sink.new) × spec.WrotePart (K.written sink.old) (K.written sink.new) result.report }
-    ensures memory { result.cause ≡ cause.Memory → K.written sink.new ≡ K.written sink.old }
+    ensures memory { result.cause ≡ cause.Memory → spec.WroteNoMore (K.written sink.old) (K.written sink.new) result.report }
 
     // Lines counted: the whole lines that were taken and found good.
     ensures read_lines { (taken : List ℕ) → reading.Gave (S.left source.old) (S.left source.new) taken → result.cause ≢ cause.Usage → reading.AreGood 1 (reading.counted_lines taken) result.read_lines }

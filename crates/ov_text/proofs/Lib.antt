@@ -1,3 +1,4 @@
+pub mod Passing
 pub mod Texts
 pub mod Counting
 pub mod Sets

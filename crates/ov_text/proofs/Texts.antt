@@ -1,108 +1,82 @@
--- The text of more entries, replay steps, answers and notes.
-use Rattle.std.proofs.Common.{ℕ, ◌≡◌, ◌+◌, ◌<◌, List, [], ◌∷◌, ◌++◌, length, refl, sym, ◌∙◌, ap, append_assoc, append-nil, add-zero, take, get_or, arith, false}
+-- The texts of a report's lists, as the texts of their members.
+use Rattle.std.proofs.Common.{ℕ, ◌≡◌, ◌+◌, ◌<◌, ◌≤◌, List, [], ◌∷◌, ◌++◌, length, refl, sym, ◌∙◌, ap, subst, append_assoc, append-nil, add-zero, take, drop, take-append-drop, get_or, arith, false}
 use Rattle.std.proofs.lemmas.List.{take_more, length-take}
+use Rattle.std.specs.Prelude.{Option}
 use Rattle.ov_model.specs.declared.entry.Entry.{Entry}
 use Rattle.ov_model.specs.declared.answer.Answer.{Answer}
 use Rattle.ov_model.specs.declared.note.Note.{Note}
 use Rattle.ov_model.specs.declared.replay.ReplayEntry.{ReplayEntry}
-use Rattle.ov_json.specs.Print.{entry_text, replay_text, answer_text, note_text}
 use Rattle.ov_model.specs.declared.report.LaneLog.{LaneLog}
 use Rattle.ov_model.specs.declared.report.Report.{Report}
 use Rattle.serde_json.specs.Written.{has_float}
+use Rattle.ov_json.specs.Print.{entry_text, replay_text, answer_text, note_text}
 use Rattle.ov_json.specs.Summary.{entries_text, replays_text, shards_text, answers_text, lanes_text, notes_text, summary_data, summary_text, report_text}
+use Rattle.ov_text.specs.Printing.{Passed, Stopped, texts}
+use Rattle.ov_text.specs.declared.page.PrintStop.{PrintStop}
+use Rattle.ov_text.proofs.Passing.{passed_then, stopped_then, stopped_in}
 
-entries_text-append : (n : ℕ) (es fs : List Entry) → entries_text n (es ++ fs) ≡ entries_text n es ++ entries_text (n + length es) fs
-entries_text-append n [] fs = rw add-zero refl
-entries_text-append n (e ∷ es) fs =
-    let next : n + 1 + length es ≡ n + length (e ∷ es) = omega arith in
-    ap (λ rest. entry_text n e ++ rest) (entries_text-append (n + 1) es fs ∙ ap (λ k. entries_text (n + 1) es ++ entries_text k fs) next)
-    ∙ sym (append_assoc (entry_text n e) (entries_text (n + 1) es) (entries_text (n + length (e ∷ es)) fs))
+module _ {X : Type 0} (line : ℕ → X → List ℕ) where
+  -- The lines of two lists, one after the other.
+  pub texts-append : (n : ℕ) (xs ys : List X) → texts line n (xs ++ ys) ≡ texts line n xs ++ texts line (n + length xs) ys
+  texts-append n [] ys = rw add-zero refl
+  texts-append n (x ∷ xs) ys =
+      let next : n + 1 + length xs ≡ n + length (x ∷ xs) = omega arith in
+      ap (λ rest. line n x ++ rest) (texts-append (n + 1) xs ys ∙ ap (λ k. texts line (n + 1) xs ++ texts line k ys) next)
+      ∙ sym (append_assoc (line n x) (texts line (n + 1) xs) (texts line (n + length (x ∷ xs)) ys))
 
-answers_text-append : (lane n : ℕ) (es fs : List Answer) → answers_text lane n (es ++ fs) ≡ answers_text lane n es ++ answers_text lane (n + length es) fs
-answers_text-append lane n [] fs = rw add-zero refl
-answers_text-append lane n (e ∷ es) fs =
-    let next : n + 1 + length es ≡ n + length (e ∷ es) = omega arith in
-    ap (λ rest. answer_text lane n e ++ rest) (answers_text-append lane (n + 1) es fs ∙ ap (λ k. answers_text lane (n + 1) es ++ answers_text lane k fs) next)
-    ∙ sym (append_assoc (answer_text lane n e) (answers_text lane (n + 1) es) (answers_text lane (n + length (e ∷ es)) fs))
+  -- The lines of one member more.
+  pub texts_more : (xs : List X) (i : ℕ) (d : X) → i < length xs → texts line 0 (take (i + 1) xs) ≡ texts line 0 (take i xs) ++ line i (get_or xs i d)
+  texts_more xs i d below =
+      let e : X = get_or xs i d in
+      let at : 0 + length (take i xs) ≡ i = omega (arith, length-take i xs) in
+      ap (texts line 0) (take_more xs i d below) ∙ texts-append 0 (take i xs) (e ∷ [])
+      ∙ ap (λ t. texts line 0 (take i xs) ++ t) (ap (λ k. texts line k (e ∷ [])) at ∙ append-nil (line i e))
 
-notes_text-append : (es fs : List Note) → notes_text (es ++ fs) ≡ notes_text es ++ notes_text fs
-notes_text-append [] fs = refl
-notes_text-append (e ∷ es) fs = ap (λ rest. note_text e ++ rest) (notes_text-append es fs) ∙ sym (append_assoc (note_text e) (notes_text es) (notes_text fs))
+  -- A line more has passed.
+  pub passed_more : (old mid new : Option (List ℕ)) (held left rest text : List ℕ) (xs : List X) (i : ℕ) (d : X) → i < length xs → text ≡ line i (get_or xs i d)
+      → Passed old mid held (texts line 0 (take i xs)) left → Passed mid new left text rest → Passed old new held (texts line 0 (take (i + 1) xs)) rest
+  passed_more old mid new held left rest text xs i d below is a b =
+      subst (λ t. Passed old new held t rest) (ap (λ t. texts line 0 (take i xs) ++ t) is ∙ sym (texts_more xs i d below))
+          (passed_then old mid new held (texts line 0 (take i xs)) left text rest a b)
 
-replays_text-append : (shard : ℕ) (es fs : List ReplayEntry) → replays_text shard (es ++ fs) ≡ replays_text shard es ++ replays_text shard fs
-replays_text-append shard [] fs = refl
-replays_text-append shard (e ∷ es) fs = ap (λ rest. replay_text shard e ++ rest) (replays_text-append shard es fs) ∙ sym (append_assoc (replay_text shard e) (replays_text shard es) (replays_text shard fs))
+  -- A line of a list that didn't pass, after those before it.
+  pub stopped_at : (why : PrintStop) (old mid new : Option (List ℕ)) (first_faults mid_faults now : ℕ) (held left text : List ℕ) (xs : List X) (i : ℕ) (d : X) → i < length xs → text ≡ line i (get_or xs i d)
+      → Passed old mid held (texts line 0 (take i xs)) left → first_faults ≤ mid_faults → Stopped why mid new mid_faults now left text → Stopped why old new first_faults now held (texts line 0 xs)
+  stopped_at why old mid new first_faults mid_faults now held left text xs i d below is a later s =
+      let ys : List X = take (i + 1) xs in
+      let whole : texts line 0 xs ≡ texts line 0 ys ++ texts line (0 + length ys) (drop (i + 1) xs) = ap (texts line 0) (sym (take-append-drop (i + 1) xs)) ∙ texts-append 0 ys (drop (i + 1) xs) in
+      let first : texts line 0 (take i xs) ++ text ≡ texts line 0 ys = ap (λ t. texts line 0 (take i xs) ++ t) is ∙ sym (texts_more xs i d below) in
+      subst (λ t. Stopped why old new first_faults now held t) (sym whole)
+          (stopped_in why old new first_faults now held (texts line 0 ys) (texts line (0 + length ys) (drop (i + 1) xs))
+              (subst (λ t. Stopped why old new first_faults now held t) first (stopped_then why old mid new first_faults mid_faults now held (texts line 0 (take i xs)) left text a later s)))
 
-shards_text-append : (n : ℕ) (es fs : List (List ReplayEntry)) → shards_text n (es ++ fs) ≡ shards_text n es ++ shards_text (n + length es) fs
-shards_text-append n [] fs = rw add-zero refl
-shards_text-append n (e ∷ es) fs =
-    let next : n + 1 + length es ≡ n + length (e ∷ es) = omega arith in
-    ap (λ rest. replays_text n e ++ rest) (shards_text-append (n + 1) es fs ∙ ap (λ k. shards_text (n + 1) es ++ shards_text k fs) next)
-    ∙ sym (append_assoc (replays_text n e) (shards_text (n + 1) es) (shards_text (n + length (e ∷ es)) fs))
+-- The lists of a report.
+pub entries_are : (n : ℕ) (es : List Entry) → texts entry_text n es ≡ entries_text n es
+entries_are n [] = refl
+entries_are n (e ∷ es) = ap (λ t. entry_text n e ++ t) (entries_are (n + 1) es)
 
--- A text and one line more, where `first` is the text so far and `all` the text with the line.
-grown : (before now line first all : List ℕ) → before ≡ now ++ first → first ++ line ≡ all → before ++ line ≡ now ++ all
-grown before now line first all was is = ap (λ b. b ++ line) was ∙ append_assoc now first line ∙ ap (λ t. now ++ t) is
+pub answers_are : (lane n : ℕ) (es : List Answer) → texts (answer_text lane) n es ≡ answers_text lane n es
+answers_are lane n [] = refl
+answers_are lane n (e ∷ es) = ap (λ t. answer_text lane n e ++ t) (answers_are lane (n + 1) es)
 
-pub one_entry_more : (before now line : List ℕ) (es : List Entry) (i : ℕ) (d : Entry) → i < length es → before ≡ now ++ entries_text 0 (take i es) → line ≡ entry_text i (get_or es i d) → before ++ line ≡ now ++ entries_text 0 (take (i + 1) es)
-one_entry_more before now line es i d below was is =
-    let e : Entry = get_or es i d in
-    let at : 0 + length (take i es) ≡ i = omega (arith, length-take i es) in
-    let first : List ℕ = entries_text 0 (take i es) in
-    let all : entries_text 0 (take (i + 1) es) ≡ first ++ entries_text (0 + length (take i es)) (e ∷ []) = ap (entries_text 0) (take_more es i d below) ∙ entries_text-append 0 (take i es) (e ∷ []) in
-    let last : line ≡ entries_text (0 + length (take i es)) (e ∷ []) = is ∙ sym (append-nil (entry_text i e)) ∙ ap (λ k. entries_text k (e ∷ [])) (sym at) in
-    grown before now line first (entries_text 0 (take (i + 1) es)) was (ap (λ l. first ++ l) last ∙ sym all)
+pub notes_are : (n : ℕ) (es : List Note) → texts (λ k note. note_text note) n es ≡ notes_text es
+notes_are n [] = refl
+notes_are n (e ∷ es) = ap (λ t. note_text e ++ t) (notes_are (n + 1) es)
 
-pub one_answer_more : (before now line : List ℕ) (lane : ℕ) (es : List Answer) (i : ℕ) (d : Answer) → i < length es → before ≡ now ++ answers_text lane 0 (take i es) → line ≡ answer_text lane i (get_or es i d) → before ++ line ≡ now ++ answers_text lane 0 (take (i + 1) es)
-one_answer_more before now line lane es i d below was is =
-    let e : Answer = get_or es i d in
-    let at : 0 + length (take i es) ≡ i = omega (arith, length-take i es) in
-    let first : List ℕ = answers_text lane 0 (take i es) in
-    let all : answers_text lane 0 (take (i + 1) es) ≡ first ++ answers_text lane (0 + length (take i es)) (e ∷ []) = ap (answers_text lane 0) (take_more es i d below) ∙ answers_text-append lane 0 (take i es) (e ∷ []) in
-    let last : line ≡ answers_text lane (0 + length (take i es)) (e ∷ []) = is ∙ sym (append-nil (answer_text lane i e)) ∙ ap (λ k. answers_text lane k (e ∷ [])) (sym at) in
-    grown before now line first (answers_text lane 0 (take (i + 1) es)) was (ap (λ l. first ++ l) last ∙ sym all)
+pub replays_are : (shard n : ℕ) (es : List ReplayEntry) → texts (λ k step. replay_text shard step) n es ≡ replays_text shard es
+replays_are shard n [] = refl
+replays_are shard n (e ∷ es) = ap (λ t. replay_text shard e ++ t) (replays_are shard (n + 1) es)
 
-pub one_note_more : (before now line : List ℕ) (es : List Note) (i : ℕ) (d : Note) → i < length es → before ≡ now ++ notes_text (take i es) → line ≡ note_text (get_or es i d) → before ++ line ≡ now ++ notes_text (take (i + 1) es)
-one_note_more before now line es i d below was is =
-    let e : Note = get_or es i d in
-    let first : List ℕ = notes_text (take i es) in
-    let all : notes_text (take (i + 1) es) ≡ first ++ notes_text (e ∷ []) = ap notes_text (take_more es i d below) ∙ notes_text-append (take i es) (e ∷ []) in
-    grown before now line first (notes_text (take (i + 1) es)) was (ap (λ l. first ++ l) (is ∙ sym (append-nil (note_text e))) ∙ sym all)
-
-pub one_replay_more : (before now line : List ℕ) (shard : ℕ) (es : List ReplayEntry) (i : ℕ) (d : ReplayEntry) → i < length es → before ≡ now ++ replays_text shard (take i es) → line ≡ replay_text shard (get_or es i d) → before ++ line ≡ now ++ replays_text shard (take (i + 1) es)
-one_replay_more before now line shard es i d below was is =
-    let e : ReplayEntry = get_or es i d in
-    let first : List ℕ = replays_text shard (take i es) in
-    let all : replays_text shard (take (i + 1) es) ≡ first ++ replays_text shard (e ∷ []) = ap (replays_text shard) (take_more es i d below) ∙ replays_text-append shard (take i es) (e ∷ []) in
-    grown before now line first (replays_text shard (take (i + 1) es)) was (ap (λ l. first ++ l) (is ∙ sym (append-nil (replay_text shard e))) ∙ sym all)
-
-pub one_shard_more : (before now line : List ℕ) (es : List (List ReplayEntry)) (i : ℕ) (d : List ReplayEntry) → i < length es → before ≡ now ++ shards_text 0 (take i es) → line ≡ replays_text i (get_or es i d) → before ++ line ≡ now ++ shards_text 0 (take (i + 1) es)
-one_shard_more before now line es i d below was is =
-    let e : List ReplayEntry = get_or es i d in
-    let at : 0 + length (take i es) ≡ i = omega (arith, length-take i es) in
-    let first : List ℕ = shards_text 0 (take i es) in
-    let all : shards_text 0 (take (i + 1) es) ≡ first ++ shards_text (0 + length (take i es)) (e ∷ []) = ap (shards_text 0) (take_more es i d below) ∙ shards_text-append 0 (take i es) (e ∷ []) in
-    let last : line ≡ shards_text (0 + length (take i es)) (e ∷ []) = is ∙ sym (append-nil (replays_text i e)) ∙ ap (λ k. shards_text k (e ∷ [])) (sym at) in
-    grown before now line first (shards_text 0 (take (i + 1) es)) was (ap (λ l. first ++ l) last ∙ sym all)
+pub shards_are : (n : ℕ) (es : List (List ReplayEntry)) → texts replays_text n es ≡ shards_text n es
+shards_are n [] = refl
+shards_are n (e ∷ es) = ap (λ t. replays_text n e ++ t) (shards_are (n + 1) es)
 
 pub summary_no_float : (r : Report) → has_float (summary_data r) ≡ false
 unfolding summary_data
 summary_no_float r = refl
 
--- The text of the answers of one lane.
-pub lanes_one : (lanes : List LaneLog) (d : LaneLog) → length lanes ≡ 1 → lanes_text 0 lanes ≡ answers_text 0 0 (get_or lanes 0 d).answers
-lanes_one [] d one = absurd (omega arith)
-lanes_one (log ∷ []) d one = append-nil (answers_text 0 0 log.answers)
-lanes_one (log ∷ other ∷ more) d one = absurd (omega arith)
-
--- The parts in their order are the whole text.
-pub whole_text : (r : Report) (answers t1 t2 t3 t4 t5 : List ℕ) → lanes_text 0 r.lanes ≡ answers → t1 ≡ entries_text 0 r.journal → t2 ≡ t1 ++ shards_text 0 r.shards → t3 ≡ t2 ++ answers → t4 ≡ t3 ++ notes_text r.notes → t5 ≡ t4 ++ summary_text r → t5 ≡ report_text r
+-- The five parts of a report's text, whose third is the answers of one lane.
+pub report_parts : (r : Report)
+    → report_text r ≡ texts entry_text 0 r.journal ++ (shards_text 0 r.shards ++ (lanes_text 0 r.lanes ++ (texts (λ k note. note_text note) 0 r.notes ++ summary_text r)))
 unfolding report_text
-whole_text r answers t1 t2 t3 t4 t5 is e1 e2 e3 e4 e5 =
-    let E : List ℕ = entries_text 0 r.journal in
-    let R : List ℕ = shards_text 0 r.shards in
-    let N : List ℕ = notes_text r.notes in
-    let S : List ℕ = summary_text r in
-    e5 ∙ ap (λ t. t ++ S) (e4 ∙ ap (λ t. t ++ N) (e3 ∙ ap (λ t. t ++ answers) (e2 ∙ ap (λ t. t ++ R) e1)))
-    ∙ append_assoc ((E ++ R) ++ answers) N S ∙ append_assoc (E ++ R) answers (N ++ S) ∙ append_assoc E R (answers ++ (N ++ S))
-    ∙ ap (λ a. E ++ (R ++ (a ++ (N ++ S)))) (sym is)
+report_parts r = rw (entries_are 0 r.journal, notes_are 0 r.notes) refl

@@ -3,10 +3,13 @@
 
 pub mod counts;
 pub mod differ;
+mod listed;
+pub mod page;
 pub mod summary;
 #[cfg(test)]
 mod tests;
 pub mod text;
 
 pub use differ::keys_differ;
-pub use text::text_of;
+pub use page::PrintStop;
+pub use text::print_report;

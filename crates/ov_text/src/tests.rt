@@ -1,8 +1,8 @@
-use crate::{keys_differ, text_of};
-use ov_base::{Addr, ListOf, Memory, Octets, Transport};
+use crate::{PrintStop, keys_differ, print_report};
+use ov_base::{Addr, ListOf, Memory, MemorySink, Octets, Transport};
 use ov_model::{
-    Act, Answer, Attrs, Call, Command, Counts, DropCause, Entry, Errno, Keepalive, KeyBytes,
-    KeyConf, KeyDir, KeyId, LaneLog, Note, NoteBody, PeerId, PeerView, Place, Reason, ReplayEntry,
+    Act, Answer, Attrs, Call, Command, DropCause, Entry, Errno, KeyBytes, KeyConf, KeyDir, KeyId,
+    LaneLog, Note, NoteBody, PeerId, Place, Reason, ReplayEntry,
     Reply, Report, SealedOut, Slot, Verdict,
 };
 use std::alloc::Global;
@@ -49,12 +49,31 @@ fn shards(
     Ok(all)
 }
 
-/// The text of a report, which has one lane and eight shards.
-fn printed(alloc: Global, report: &Report) -> Result<Vec<u8>, Memory> {
+/// What is written of the text of a report of one lane and eight shards, where these writes fail, and how
+/// that ended. A write takes all that it is given.
+fn printed(
+    alloc: Global,
+    report: &Report,
+    failing: &[u64],
+) -> Result<(Result<(), PrintStop>, Vec<u8>), Memory> {
+    let mut sink = MemorySink::new(
+        alloc,
+        usize::MAX,
+        ListOf::of_vec(Vec::from_slice(alloc, failing)?),
+    );
     if report.lanes.as_slice().len() != 1 || report.shards.as_slice().len() != 8 {
         return Err(Memory);
     }
-    text_of(alloc, report)
+    let ended = print_report(alloc, report, &mut sink);
+    Ok((ended, Vec::from_slice(alloc, sink.written())?))
+}
+
+/// The whole text of a report of one lane and eight shards.
+fn text_of(alloc: Global, report: &Report) -> Result<Vec<u8>, Memory> {
+    match printed(alloc, report, &[])? {
+        (Ok(()), text) => Ok(text),
+        (Err(_), _) => Err(Memory),
+    }
 }
 
 /// The lines with their ends.
@@ -93,30 +112,6 @@ fn remote() -> Transport {
     }
 }
 
-/// A peer as it was made.
-fn fresh(id: PeerId) -> PeerView {
-    PeerView {
-        id,
-        remote: remote(),
-        vpn4: Some([10, 8, 0, 5]),
-        vpn6: None,
-        keepalive: Keepalive {
-            interval: 0,
-            timeout: 0,
-        },
-        counts: Counts {
-            vpn_rx_bytes: 0,
-            vpn_rx_packets: 0,
-            vpn_tx_bytes: 0,
-            vpn_tx_packets: 0,
-            link_rx_bytes: 0,
-            link_rx_packets: 0,
-            link_tx_bytes: 0,
-            link_tx_packets: 0,
-        },
-    }
-}
-
 #[test]
 fn an_empty_report_is_its_summary(rt: HostRuntime) -> Result<(), Fail> {
     let alloc = rt.alloc();
@@ -128,7 +123,7 @@ fn an_empty_report_is_its_summary(rt: HostRuntime) -> Result<(), Fail> {
         Vec::new(alloc),
         Vec::new(alloc),
     )?;
-    let text = printed(alloc, &empty)?;
+    let text = text_of(alloc, &empty)?;
     let line: &[u8] =
         br#"{"summary":{"accepted":0,"answers":0,"bad-tag":0,"delivered":0,"journal":0,"keys":0,"keys-differ":true,"notes":0,"peers":0,"refused":0,"released":0,"sealed":0}}"#;
     assert!(rt; text == joined(alloc, &[line])?);
@@ -136,7 +131,7 @@ fn an_empty_report_is_its_summary(rt: HostRuntime) -> Result<(), Fail> {
 }
 
 #[test]
-fn a_session_of_one_peer_has_its_eleven_lines(rt: HostRuntime) -> Result<(), Fail> {
+fn a_session_of_one_peer_has_its_nine_lines(rt: HostRuntime) -> Result<(), Fail> {
     let alloc = rt.alloc();
     let Some(id) = PeerId::new(5) else {
         panic!(rt; "an id in range");
@@ -153,14 +148,12 @@ fn a_session_of_one_peer_has_its_eleven_lines(rt: HostRuntime) -> Result<(), Fai
     let refused = Errno::NoEntry;
     let journal = vec![in alloc;
         entry(0, 0, Act::Do(Command::PeerNew(attrs)), Reply::Made(0)),
-        entry(1, 1, get, Reply::Peer(fresh(id))),
-        entry(2, 2, remove, Reply::Removed(zero(alloc)?)),
-        entry(2, 2, Act::Released(0), Reply::Released(0)),
-        entry(3, 3, get, Reply::Refused(refused)),
+        entry(1, 2, remove, Reply::Removed(zero(alloc)?)),
+        entry(1, 2, Act::Released(0), Reply::Released(0)),
+        entry(2, 3, get, Reply::Refused(refused)),
     ]?;
     let answers = vec![in alloc;
         Answer::Reply(Reply::Made(0)),
-        Answer::Reply(Reply::Peer(fresh(id))),
         Answer::Reply(Reply::Removed(zero(alloc)?)),
         Answer::Reply(Reply::Refused(refused)),
     ]?;
@@ -168,21 +161,19 @@ fn a_session_of_one_peer_has_its_eleven_lines(rt: HostRuntime) -> Result<(), Fai
         id,
         reason: Reason::Userspace,
     };
-    let notes = vec![in alloc; Note { entry: 2, body }]?;
+    let notes = vec![in alloc; Note { entry: 1, body }]?;
     let none = shards(alloc, Vec::new(alloc), Vec::new(alloc))?;
-    let text = printed(alloc, &report(alloc, journal, none, answers, notes)?)?;
-    let lines: [&[u8]; 11] = [
+    let text = text_of(alloc, &report(alloc, journal, none, answers, notes)?)?;
+    let lines: [&[u8]; 9] = [
         br#"{"at":0,"call":"peer-new","journal":0,"lane":0,"line":0,"reply":{"serial":0}}"#,
-        br#"{"at":1,"call":"peer-get","journal":1,"lane":0,"line":1,"reply":{"peer":{"id":5,"keepalive-interval":0,"keepalive-timeout":0,"link-rx-bytes":0,"link-rx-packets":0,"link-tx-bytes":0,"link-tx-packets":0,"remote-ipv4":"192.0.2.1","remote-port":1194,"vpn-ipv4":"10.8.0.5","vpn-rx-bytes":0,"vpn-rx-packets":0,"vpn-tx-bytes":0,"vpn-tx-packets":0}}}"#,
-        br#"{"at":2,"call":"remove","journal":2,"lane":0,"line":2,"reply":{"removed":[0]}}"#,
-        br#"{"at":2,"call":"released","journal":3,"lane":0,"line":2,"reply":{"released":0}}"#,
-        br#"{"at":3,"call":"peer-get","journal":4,"lane":0,"line":3,"reply":{"error":2}}"#,
+        br#"{"at":2,"call":"remove","journal":1,"lane":0,"line":1,"reply":{"removed":[0]}}"#,
+        br#"{"at":2,"call":"released","journal":2,"lane":0,"line":1,"reply":{"released":0}}"#,
+        br#"{"at":3,"call":"peer-get","journal":3,"lane":0,"line":2,"reply":{"error":2}}"#,
         br#"{"answer":{"serial":0},"lane":0,"line":0}"#,
-        br#"{"answer":{"peer":{"id":5,"keepalive-interval":0,"keepalive-timeout":0,"link-rx-bytes":0,"link-rx-packets":0,"link-tx-bytes":0,"link-tx-packets":0,"remote-ipv4":"192.0.2.1","remote-port":1194,"vpn-ipv4":"10.8.0.5","vpn-rx-bytes":0,"vpn-rx-packets":0,"vpn-tx-bytes":0,"vpn-tx-packets":0}},"lane":0,"line":1}"#,
-        br#"{"answer":{"removed":[0]},"lane":0,"line":2}"#,
-        br#"{"answer":{"error":2},"lane":0,"line":3}"#,
-        br#"{"journal":2,"notify":"peer-del-ntf","peer":{"del-reason":"userspace","id":5}}"#,
-        br#"{"summary":{"accepted":0,"answers":4,"bad-tag":0,"delivered":0,"journal":5,"keys":0,"keys-differ":true,"notes":1,"peers":1,"refused":0,"released":1,"sealed":0}}"#,
+        br#"{"answer":{"removed":[0]},"lane":0,"line":1}"#,
+        br#"{"answer":{"error":2},"lane":0,"line":2}"#,
+        br#"{"journal":1,"notify":"peer-del-ntf","peer":{"del-reason":"userspace","id":5}}"#,
+        br#"{"summary":{"accepted":0,"answers":3,"bad-tag":0,"delivered":0,"journal":4,"keys":0,"keys-differ":true,"notes":1,"peers":1,"refused":0,"released":1,"sealed":0}}"#,
     ];
     assert!(rt; text == joined(alloc, &lines)?);
     Ok(())
@@ -241,7 +232,7 @@ fn replay_steps_stand_between_entries_and_answers(rt: HostRuntime) -> Result<(),
         Answer::Dropped(DropCause::BadTag),
     ]?;
     let steps = shards(alloc, first, last)?;
-    let text = printed(
+    let text = text_of(
         alloc,
         &report(alloc, journal, steps, answers, Vec::new(alloc))?,
     )?;
@@ -311,5 +302,48 @@ fn keys_differ_by_their_sealing_key_and_tail(rt: HostRuntime) -> Result<(), Fail
         );
     }
     assert_eq!(rt; keys_differ(rt.alloc(), &[]), Ok(true));
+    Ok(())
+}
+
+#[test]
+fn a_long_text_is_written_in_pieces(rt: HostRuntime) -> Result<(), Fail> {
+    let alloc = rt.alloc();
+    let Some(peer) = PeerId::new(5) else {
+        panic!(rt; "an id in range");
+    };
+    let digits = vec![in alloc; b'0'; 2_000]?;
+    let (mut answers, mut text) = (Vec::new(alloc), Vec::new(alloc));
+    // The first line with which the text so far has at least 65,536 bytes is the last of the first piece.
+    let mut first_piece = 0;
+    for number in 0..40_u64 {
+        let packet = Octets::of(alloc, &[0; 1_000])?;
+        answers.push(Answer::Delivered { peer, packet })?;
+        text.extend_from_slice(br#"{"answer":{"delivered":{"packet":""#)?;
+        text.extend_from_slice(digits.as_slice())?;
+        let rest = format!(in alloc; "\",\"peer\":5}}}},\"lane\":0,\"line\":{number}}}\n")?;
+        text.extend_from_slice(rest.as_bytes())?;
+        if first_piece == 0 && text.len() >= 65_536 {
+            first_piece = text.len();
+        }
+    }
+    text.extend_from_slice(
+        br#"{"summary":{"accepted":0,"answers":40,"bad-tag":0,"delivered":40,"journal":0,"keys":0,"keys-differ":true,"notes":0,"peers":0,"refused":0,"released":0,"sealed":0}}
+"#,
+    )?;
+    let none = shards(alloc, Vec::new(alloc), Vec::new(alloc))?;
+    let long = report(alloc, Vec::new(alloc), none, answers, Vec::new(alloc))?;
+    let failed = Err(PrintStop::Write);
+    let rows: [(&[u64], Result<(), PrintStop>, usize); 4] = [
+        (&[0], failed, 0),
+        (&[1], failed, first_piece),
+        (&[2], Ok(()), text.len()),
+        (&[], Ok(()), text.len()),
+    ];
+    for (failing, wanted, length) in rows {
+        let (ended, written) = printed(alloc, &long, failing)?;
+        assert!(rt; ended == wanted);
+        assert_eq!(rt; written.len(), length);
+        assert!(rt; text.as_slice().starts_with(written.as_slice()));
+    }
     Ok(())
 }

@@ -1,119 +1,96 @@
 //! The lines of a report in their order.
 
-ghost use Rattle.std.specs.Prelude.{◌≡◌, ◌++◌, length, IfOk, OnOk};
+ghost use Rattle.std.specs.Prelude.{◌≡◌, ◌≤◌, length, Err, IfErr, OnOk, OnErr};
+ghost use Rattle.std.specs.Io.KnownBytes.{Appends};
+ghost use Rattle.ov_base.specs.Outside.{Rose};
+ghost use Rattle.ov_base.specs.Loops.{AppendsPart};
 ghost use Rattle.ov_json.specs.Summary as spec;
+ghost use Rattle.ov_text.specs.Printing.{Passed, Stopped};
 
+use crate::listed::print_list;
+use crate::page::{PrintStop, flush, put};
 use crate::summary::{only_answers, summary};
-use ov_base::{ListOf, Memory, Octets};
+use ov_base::{ListOf, Sink};
 use ov_json::members::line_of;
-use ov_json::{answer_line, entry_line, note_line, replay_line};
-use ov_model::{Answer, Entry, Note, ReplayEntry, Report};
+use ov_model::{ReplayEntry, Report};
 use std::alloc::Global;
 
-/// Appends a line to the text.
-fn add(text: &mut Vec<u8>, line: &Octets) -> Result<(), Memory>
-    ensures { OnOk result (text.new.items ≡ text.old.items ++ line.now) }
-{
-    text.extend_from_slice(line.as_slice())?;
-    Ok(())
-}
-
-/// Appends the journal's entries, numbered from 0.
-fn add_entries(alloc: Global, entries: &[Entry], text: &mut Vec<u8>) -> Result<(), Memory>
-    ensures { OnOk result (text.new.items ≡ text.old.items ++ spec.entries_text 0 entries.now) }
-{
-    let mut number: u64 = 0;
-    for entry in entries {
-        let line = entry_line(alloc, number, entry)?;
-        add(text, &line)?;
-        number += 1;
-    }
-    Ok(())
-}
-
-/// Appends the replay steps of one shard.
-fn add_replays(
-    alloc: Global,
-    shard: u32,
-    steps: &[ReplayEntry],
-    text: &mut Vec<u8>,
-) -> Result<(), Memory>
-    ensures { OnOk result (text.new.items ≡ text.old.items ++ spec.replays_text shard steps.now) }
-{
-    for entry in steps {
-        let line = replay_line(alloc, shard, entry)?;
-        add(text, &line)?;
-    }
-    Ok(())
-}
-
-/// Appends the replay steps of the eight shards in turn.
-fn add_shards(
+/// Prints the replay steps of the eight shards in turn.
+fn print_shards<K: Sink>(
     alloc: Global,
     shards: &[ListOf<ReplayEntry>],
-    text: &mut Vec<u8>,
-) -> Result<(), Memory>
+    page: &mut Vec<u8>,
+    sink: &mut K,
+) -> Result<(), PrintStop>
     requires eight { length shards.now ≡ 8 }
-    ensures { OnOk result (text.new.items ≡ text.old.items ++ spec.shards_text 0 shards.now) }
+    ensures passed { OnOk result (Passed (K.written sink.old) (K.written sink.new) page.old.items (spec.shards_text 0 shards.now) page.new.items) }
+    ensures stopped { IfErr result (λ stop. Stopped stop (K.written sink.old) (K.written sink.new) (K.faults sink.old) (K.faults sink.new) page.old.items (spec.shards_text 0 shards.now)) }
+    ensures later { K.faults sink.old ≤ K.faults sink.new }
 {
     let mut number: u32 = 0;
     for shard in shards {
-        add_replays(alloc, number, shard.as_slice(), text)?;
+        print_list(alloc, number, shard.as_slice(), page, sink)?;
         number += 1;
     }
     Ok(())
 }
 
-/// Appends a lane's answers, their lines numbered from 0.
-fn add_answers(
+/// Prints the summary.
+fn print_summary<K: Sink>(
     alloc: Global,
-    lane: u32,
-    answers: &[Answer],
-    text: &mut Vec<u8>,
-) -> Result<(), Memory>
-    ensures { OnOk result (text.new.items ≡ text.old.items ++ spec.answers_text lane 0 answers.now) }
-{
-    let mut number: u64 = 0;
-    for answer in answers {
-        let line = answer_line(alloc, lane, number, answer)?;
-        add(text, &line)?;
-        number += 1;
-    }
-    Ok(())
-}
-
-/// Appends the notifications.
-fn add_notes(alloc: Global, notes: &[Note], text: &mut Vec<u8>) -> Result<(), Memory>
-    ensures { OnOk result (text.new.items ≡ text.old.items ++ spec.notes_text notes.now) }
-{
-    for note in notes {
-        let line = note_line(alloc, note)?;
-        add(text, &line)?;
-    }
-    Ok(())
-}
-
-/// Appends the summary.
-fn add_summary(alloc: Global, report: &Report, text: &mut Vec<u8>) -> Result<(), Memory>
+    report: &Report,
+    page: &mut Vec<u8>,
+    sink: &mut K,
+) -> Result<(), PrintStop>
     requires lane { length report.now.lanes ≡ 1 }
-    ensures { OnOk result (text.new.items ≡ text.old.items ++ spec.summary_text report.now) }
+    ensures passed { OnOk result (Passed (K.written sink.old) (K.written sink.new) page.old.items (spec.summary_text report.now) page.new.items) }
+    ensures stopped { IfErr result (λ stop. Stopped stop (K.written sink.old) (K.written sink.new) (K.faults sink.old) (K.faults sink.new) page.old.items (spec.summary_text report.now)) }
+    ensures later { K.faults sink.old ≤ K.faults sink.new }
 {
     let counts = summary(alloc, report)?;
     let line = line_of(alloc, &counts)?;
-    add(text, &line)
+    put(line.as_slice(), page, sink)
 }
 
-/// The whole text of a report of one lane and eight shards.
-pub fn text_of(alloc: Global, report: &Report) -> Result<Vec<u8>, Memory>
+/// Prints all lines of a report.
+fn print_lines<K: Sink>(
+    alloc: Global,
+    report: &Report,
+    page: &mut Vec<u8>,
+    sink: &mut K,
+) -> Result<(), PrintStop>
     requires lane { length report.now.lanes ≡ 1 }
     requires shards { length report.now.shards ≡ 8 }
-    ensures { IfOk result (λ text. text.items ≡ spec.report_text report.now) }
+    ensures passed { OnOk result (Passed (K.written sink.old) (K.written sink.new) page.old.items (spec.report_text report.now) page.new.items) }
+    ensures stopped { IfErr result (λ stop. Stopped stop (K.written sink.old) (K.written sink.new) (K.faults sink.old) (K.faults sink.new) page.old.items (spec.report_text report.now)) }
+    ensures later { K.faults sink.old ≤ K.faults sink.new }
 {
-    let mut text = Vec::new(alloc);
-    add_entries(alloc, report.journal.as_slice(), &mut text)?;
-    add_shards(alloc, report.shards.as_slice(), &mut text)?;
-    add_answers(alloc, 0, only_answers(report.lanes.as_slice()), &mut text)?;
-    add_notes(alloc, report.notes.as_slice(), &mut text)?;
-    add_summary(alloc, report, &mut text)?;
-    Ok(text)
+    print_list(alloc, 0, report.journal.as_slice(), page, sink)?;
+    print_shards(alloc, report.shards.as_slice(), page, sink)?;
+    print_list(alloc, 0, only_answers(report.lanes.as_slice()), page, sink)?;
+    print_list(alloc, 0, report.notes.as_slice(), page, sink)?;
+    print_summary(alloc, report, page, sink)
+}
+
+/// Writes the text of a report of one lane and eight shards, in pieces of some 65,536 bytes: so much of it
+/// is in memory at a time, and one line more.
+///
+/// `Write` comes where a write failed, and `Memory` where a line, the page or the summary found no memory.
+/// With either, the text is written in part, from its front, and not to its end.
+pub fn print_report<K: Sink>(
+    alloc: Global,
+    report: &Report,
+    sink: &mut K,
+) -> Result<(), PrintStop>
+    requires lane { length report.now.lanes ≡ 1 }
+    requires shards { length report.now.shards ≡ 8 }
+    ensures whole { OnOk result (Appends (K.written sink.old) (K.written sink.new) (spec.report_text report.now)) }
+    ensures part { OnErr result (AppendsPart (K.written sink.old) (K.written sink.new) (spec.report_text report.now)) }
+    ensures failed { result ≡ Err PrintStop.Write → Rose (K.faults sink.old) (K.faults sink.new) }
+    ensures later { K.faults sink.old ≤ K.faults sink.new }
+{
+    let mut page = Vec::new(alloc);
+    print_lines(alloc, report, &mut page, sink)?;
+    flush(&mut page, sink)?;
+    Ok(())
 }
