@@ -1,5 +1,5 @@
 -- How texts that follow one another pass through a page.
-use Rattle.std.proofs.Common.{ℕ, ◌≡◌, ◌≢◌, ◌+◌, ◌-◌, ◌<◌, ◌≤◌, List, [], ◌∷◌, ◌++◌, length, take, drop, refl, sym, ap, ◌∙◌, subst, append_assoc, append-nil, take-append-drop, length-append, length-drop, arith}
+use Rattle.std.proofs.Common.{ℕ, ◌≡◌, ◌+◌, ◌<◌, ◌≤◌, List, [], ◌∷◌, ◌++◌, length, take, drop, refl, sym, ap, ◌∙◌, subst, append_assoc, take-append-drop, length-append, length-drop, arith}
 use Rattle.std.specs.Prelude.{Option, Result, Ok, Err, IfErr, ⊤}
 use Rattle.std.specs.Result.{IsErr, IsErrAnd}
 use Rattle.std.specs.Io.KnownBytes.{Appends}
@@ -84,9 +84,11 @@ part_of why old new before now text s =
 -- Nor does all of a text come to the sink whose last page was written in part.
 pub part_at_end : (old mid new : Option (List ℕ)) (text rest : List ℕ) → Passed old mid [] text rest → AppendsPart mid new rest → AppendsPart old new text
 part_at_end old mid new text rest a part =
-    let front : take (length a.sent + part.0) text ≡ a.sent ++ take part.0 rest = ap (take (length a.sent + part.0)) a.split ∙ take-append-add a.sent rest part.0 in
-    (length a.sent + part.0, omega (arith, ap length a.split, length-append a.sent rest, part.1),
-        subst (Appends old new) (sym front) (Appends-trans old mid new a.sent (take part.0 rest) a.taken part.2))
+    let front : take (length a.sent + part.0) text ≡ a.sent ++ take part.0 rest = ap (take (length a.sent + part.0)) a.split ∙ take-append-add a.sent rest part.0 in (
+      length a.sent + part.0,
+      omega (arith, ap length a.split, length-append a.sent rest, part.1),
+      subst (Appends old new) (sym front) (Appends-trans old mid new a.sent (take part.0 rest) a.taken part.2),
+    )
 
 -- An error that `?` hands on.
 pub handed_on : {A E : Type 0} (r : Result A E) (why : E) (P : E → Type 0) → IsErr r × IsErrAnd r (λ s. s ≡ why) → P why → IfErr r P

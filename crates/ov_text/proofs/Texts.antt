@@ -6,7 +6,6 @@ use Rattle.ov_model.specs.declared.entry.Entry.{Entry}
 use Rattle.ov_model.specs.declared.answer.Answer.{Answer}
 use Rattle.ov_model.specs.declared.note.Note.{Note}
 use Rattle.ov_model.specs.declared.replay.ReplayEntry.{ReplayEntry}
-use Rattle.ov_model.specs.declared.report.LaneLog.{LaneLog}
 use Rattle.ov_model.specs.declared.report.Report.{Report}
 use Rattle.serde_json.specs.Written.{has_float}
 use Rattle.ov_json.specs.Print.{entry_text, replay_text, answer_text, note_text}
@@ -37,7 +36,7 @@ module _ {X : Type 0} (line : ℕ → X → List ℕ) where
       → Passed old mid held (texts line 0 (take i xs)) left → Passed mid new left text rest → Passed old new held (texts line 0 (take (i + 1) xs)) rest
   passed_more old mid new held left rest text xs i d below is a b =
       subst (λ t. Passed old new held t rest) (ap (λ t. texts line 0 (take i xs) ++ t) is ∙ sym (texts_more xs i d below))
-          (passed_then old mid new held (texts line 0 (take i xs)) left text rest a b)
+      (passed_then old mid new held (texts line 0 (take i xs)) left text rest a b)
 
   -- A line of a list that didn't pass, after those before it.
   pub stopped_at : (why : PrintStop) (old mid new : Option (List ℕ)) (first_faults mid_faults now : ℕ) (held left text : List ℕ) (xs : List X) (i : ℕ) (d : X) → i < length xs → text ≡ line i (get_or xs i d)
@@ -47,8 +46,8 @@ module _ {X : Type 0} (line : ℕ → X → List ℕ) where
       let whole : texts line 0 xs ≡ texts line 0 ys ++ texts line (0 + length ys) (drop (i + 1) xs) = ap (texts line 0) (sym (take-append-drop (i + 1) xs)) ∙ texts-append 0 ys (drop (i + 1) xs) in
       let first : texts line 0 (take i xs) ++ text ≡ texts line 0 ys = ap (λ t. texts line 0 (take i xs) ++ t) is ∙ sym (texts_more xs i d below) in
       subst (λ t. Stopped why old new first_faults now held t) (sym whole)
-          (stopped_in why old new first_faults now held (texts line 0 ys) (texts line (0 + length ys) (drop (i + 1) xs))
-              (subst (λ t. Stopped why old new first_faults now held t) first (stopped_then why old mid new first_faults mid_faults now held (texts line 0 (take i xs)) left text a later s)))
+      (stopped_in why old new first_faults now held (texts line 0 ys) (texts line (0 + length ys) (drop (i + 1) xs))
+      (subst (λ t. Stopped why old new first_faults now held t) first (stopped_then why old mid new first_faults mid_faults now held (texts line 0 (take i xs)) left text a later s)))
 
 -- The lists of a report.
 pub entries_are : (n : ℕ) (es : List Entry) → texts entry_text n es ≡ entries_text n es

@@ -2,8 +2,8 @@ use crate::{PrintStop, keys_differ, print_report};
 use ov_base::{Addr, ListOf, Memory, MemorySink, Octets, Transport};
 use ov_model::{
     Act, Answer, Attrs, Call, Command, DropCause, Entry, Errno, KeyBytes, KeyConf, KeyDir, KeyId,
-    LaneLog, Note, NoteBody, PeerId, Place, Reason, ReplayEntry,
-    Reply, Report, SealedOut, Slot, Verdict,
+    LaneLog, Note, NoteBody, PeerId, Place, Reason, ReplayEntry, Reply, Report, SealedOut, Slot,
+    Verdict,
 };
 use std::alloc::Global;
 use std::test::Fail;

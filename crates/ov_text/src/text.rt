@@ -77,11 +77,7 @@ fn print_lines<K: Sink>(
 ///
 /// `Write` comes where a write failed, and `Memory` where a line, the page or the summary found no memory.
 /// With either, the text is written in part, from its front, and not to its end.
-pub fn print_report<K: Sink>(
-    alloc: Global,
-    report: &Report,
-    sink: &mut K,
-) -> Result<(), PrintStop>
+pub fn print_report<K: Sink>(alloc: Global, report: &Report, sink: &mut K) -> Result<(), PrintStop>
     requires lane { length report.now.lanes ≡ 1 }
     requires shards { length report.now.shards ≡ 8 }
     ensures whole { OnOk result (Appends (K.written sink.old) (K.written sink.new) (spec.report_text report.now)) }

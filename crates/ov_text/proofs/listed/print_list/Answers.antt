@@ -16,11 +16,11 @@ loop-member-preserved g c = record {
 pub returns-in_err-line-clause-stopped : goal.returns-in_err-line-clause-stopped
 returns-in_err-line-clause-stopped g c = handed_on _ _ _ c.from_residual.ensures
     (stopped_at (g.T.Listed.text c.args.owner) _ _ _ _ _ _ _ _ _ _ _ _ _ c.loop-member-test.true
-        (ap (λ k. g.T.Listed.text c.args.owner k c.member-item.result) c.loop-member.invariant.number ∙ ap (g.T.Listed.text c.args.owner c.loop-member.member-index) c.member-item.is)
-        c.loop-member.invariant.passed c.loop-member.invariant.later (no_memory _ _ _ _ _ c.line.ensures.some))
+    (ap (λ k. g.T.Listed.text c.args.owner k c.member-item.result) c.loop-member.invariant.number ∙ ap (g.T.Listed.text c.args.owner c.loop-member.member-index) c.member-item.is)
+    c.loop-member.invariant.passed c.loop-member.invariant.later (no_memory _ _ _ _ _ c.line.ensures.some))
 
 pub returns-in_err-put-clause-stopped : goal.returns-in_err-put-clause-stopped
 returns-in_err-put-clause-stopped g c = handed_on _ _ _ c.from_residual-in_err-put.ensures
     (stopped_at (g.T.Listed.text c.args.owner) _ _ _ _ _ _ _ _ _ _ _ _ _ c.loop-member-test.true
-        (c.as_slice.ensures ∙ c.in_ok-line.ensures.text ∙ ap (λ k. g.T.Listed.text c.args.owner k c.member-item.result) c.loop-member.invariant.number ∙ ap (g.T.Listed.text c.args.owner c.loop-member.member-index) c.member-item.is)
-        c.loop-member.invariant.passed c.loop-member.invariant.later c.in_err-put.ensures.stopped)
+    (c.as_slice.ensures ∙ c.in_ok-line.ensures.text ∙ ap (λ k. g.T.Listed.text c.args.owner k c.member-item.result) c.loop-member.invariant.number ∙ ap (g.T.Listed.text c.args.owner c.loop-member.member-index) c.member-item.is)
+    c.loop-member.invariant.passed c.loop-member.invariant.later c.in_err-put.ensures.stopped)
