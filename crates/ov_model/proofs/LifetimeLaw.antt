@@ -54,36 +54,28 @@ any_stands f x serial (p ∷ ps) any =
           rw all (omega arith)
     ]
 
--- So does what any test finds; and the keys of a peer that is found stand in the slots.
-found_stands : {X : Type 0} (f : X → ℕ) (P : X → Bool) (x : ℕ) (ps : List X) (p : X) → find P ps ≡ Some p → times x (f p ∷ []) ≤ times x (map f ps)
-found_stands f P x [] p found = cc
-found_stands {X} f P x (q ∷ ps) p found =
-    let all : times x (f q ∷ map f ps) ≡ times x (f q ∷ []) + times x (map f ps) = times_first x (f q) (map f ps) in
-    elim (P q) as (λ b. P q ≡ b → times x (f p ∷ []) ≤ times x (map f (q ∷ ps))) [
+-- What any test finds is a part of the whole list: of its serials, and of the keys in its slots.
+found_part : {X : Type 0} (part : X → ℕ) (whole : List X → ℕ) → ((q : X) (qs : List X) → whole (q ∷ qs) ≡ part q + whole qs) → (P : X → Bool) (ps : List X) (p : X) → find P ps ≡ Some p → part p ≤ whole ps
+found_part part whole adds P [] p found = cc
+found_part {X} part whole adds P (q ∷ ps) p found =
+    let all : whole (q ∷ ps) ≡ part q + whole ps = adds q ps in
+    elim (P q) as (λ b. P q ≡ b → part p ≤ whole (q ∷ ps)) [
       | true ↦ λ yes.
           let first : find P (q ∷ ps) ≡ Some q = rw yes refl in
           let its : q ≡ p = (let e : Some q ≡ Some p = sym first ∙ found in cc) in
-          rw all (rw its (omega arith))
+          let same : part q ≡ part p = ap part its in
+          omega arith
       | false ↦ λ no.
           let skip : find P (q ∷ ps) ≡ find P ps = rw no refl in
-          let later : times x (f p ∷ []) ≤ times x (map f ps) = found_stands f P x ps p (sym skip ∙ found) in
-          rw all (omega arith)
+          let later : part p ≤ whole ps = found_part part whole adds P ps p (sym skip ∙ found) in
+          omega arith
     ] refl
 
+found_stands : {X : Type 0} (f : X → ℕ) (P : X → Bool) (x : ℕ) (ps : List X) (p : X) → find P ps ≡ Some p → times x (f p ∷ []) ≤ times x (map f ps)
+found_stands {X} f P x ps p found = found_part (λ (q : X). times x (f q ∷ [])) (λ qs. times x (map f qs)) (λ q qs. times_first x (f q) (map f qs)) P ps p found
+
 found_slots : (P : Peer → Bool) (x : ℕ) (ps : List Peer) (p : Peer) → find P ps ≡ Some p → times x (peer_keys p) ≤ times x (slot_serials ps)
-found_slots P x [] p found = cc
-found_slots P x (q ∷ ps) p found =
-    let all : times x (slot_serials (q ∷ ps)) ≡ times x (peer_keys q) + times x (slot_serials ps) = slots_first x q ps in
-    elim (P q) as (λ b. P q ≡ b → times x (peer_keys p) ≤ times x (slot_serials (q ∷ ps))) [
-      | true ↦ λ yes.
-          let first : find P (q ∷ ps) ≡ Some q = rw yes refl in
-          let its : q ≡ p = (let e : Some q ≡ Some p = sym first ∙ found in cc) in
-          rw all (rw its (omega arith))
-      | false ↦ λ no.
-          let skip : find P (q ∷ ps) ≡ find P ps = rw no refl in
-          let later : times x (peer_keys p) ≤ times x (slot_serials ps) = found_slots P x ps p (sym skip ∙ found) in
-          rw all (omega arith)
-    ] refl
+found_slots P x ps p found = found_part (λ q. times x (peer_keys q)) (λ qs. times x (slot_serials qs)) (λ q qs. slots_first x q qs) P ps p found
 
 -- A key that one of the live peers has stands in a slot.
 has_stands : (x key : ℕ) (ks : List Key) → is_some (find (is_of (λ (k : Key). k.serial) key) ks) ≡ true → times x (key ∷ []) ≤ times x (key_serials ks)
