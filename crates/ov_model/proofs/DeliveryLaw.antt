@@ -65,7 +65,7 @@ settle_at_reply : (t : Table) (now peer : ℕ) (from : Option Transport) (s : Se
 settle_at_reply t now peer from s inner outer None = settle_not_live_reply t now s inner outer (position (λ p. p.serial == peer) t.dying)
 settle_at_reply t now peer from s inner outer (Some i) = settle_live_reply t now from s inner outer i (slice_get t.live i)
 
-settle_reply : (t : Table) (now peer : ℕ) (from : Option Transport) (k : InnerKind) (inner outer : ℕ) → (act_step t now (act.Settle peer from k inner outer)).reply ≡ reply.Settled (settled_as peer k t.live)
+pub settle_reply : (t : Table) (now peer : ℕ) (from : Option Transport) (k : InnerKind) (inner outer : ℕ) → (act_step t now (act.Settle peer from k inner outer)).reply ≡ reply.Settled (settled_as peer k t.live)
 unfolding settle
 settle_reply t now peer from k inner outer = settle_at_reply t now peer from (settled_as peer k t.live) inner outer (position (λ p. p.serial == peer) t.live)
 

@@ -19,10 +19,10 @@ use Rattle.ov_model.proofs.KeysTaken.{taken_once}
 
 -- ---- what is let go is taken out of its list
 
-abbrev is_of : {X : Type 0} → (X → ℕ) → ℕ → X → Bool
+abbrev pub is_of : {X : Type 0} → (X → ℕ) → ℕ → X → Bool
 is_of f serial p = f p == serial
 
-later_any : (b c : Bool) → b ≡ false → (b || c) ≡ true → c ≡ true
+pub later_any : (b c : Bool) → b ≡ false → (b || c) ≡ true → c ≡ true
 later_any b c first any = sym (ap (λ d. d || c) first) ∙ any
 
 found_within : {X : Type 0} (f : X → ℕ) (serial : ℕ) (ps : List X) → list_any (is_of f serial) ps ≡ true → position_or_len (is_of f serial) ps < length ps
@@ -54,9 +54,9 @@ found_counts f x serial (p ∷ ps) any =
 -- ---- the balance of removals and releases
 
 -- Of each serial: what was dying or retired and what joined is what is so still and what was let go.
-record Balance (x : ℕ) (t : Table) (a : Act) (o : Outcome) : Type 0 where
-  peers : times x (serials o.after.dying) + times x (released_by a) ≡ times x (serials t.dying) + times x (removed o.reply)
-  keys : times x (key_serials o.after.retired) + times x (key_released_by a) ≡ times x (key_serials t.retired) + times x o.taken
+pub record Balance (x : ℕ) (t : Table) (a : Act) (o : Outcome) : Type 0 where
+  pub peers : times x (serials o.after.dying) + times x (released_by a) ≡ times x (serials t.dying) + times x (removed o.reply)
+  pub keys : times x (key_serials o.after.retired) + times x (key_released_by a) ≡ times x (key_serials t.retired) + times x o.taken
 
 keeps_balance : (x : ℕ) (t : Table) (a : Act) (o : Outcome) → released_by a ≡ [] → key_released_by a ≡ [] → Keeps t o → Balance x t a o
 keeps_balance x t a o no_peer no_key keeps = record {
@@ -108,7 +108,7 @@ spent_removes_none : (killed : Bool) → removed (spent_reply killed) ≡ []
 spent_removes_none true = refl
 spent_removes_none false = refl
 
-act_balance : (x : ℕ) (t : Table) (now : ℕ) (a : Act) → may_act t a ≡ true → Balance x t a (act_step t now a)
+pub act_balance : (x : ℕ) (t : Table) (now : ℕ) (a : Act) → may_act t a ≡ true → Balance x t a (act_step t now a)
 act_balance x t now (act.Do c) may =
     let o : Outcome = command_step t now c in
     let joins : Joins t o = command_joins t now c in

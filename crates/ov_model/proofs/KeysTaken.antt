@@ -25,15 +25,11 @@ use Rattle.ov_model.specs.Step.{Outcome, replied, refused, peer_of, peer_new, pe
 use Rattle.ov_model.specs.Runs.{Follows, IsRun, table_after}
 use Rattle.ov_model.specs.Events.{steps_after, steps_of}
 use Rattle.ov_model.specs.Removals.{times, keys_taken_in}
+pub use Rattle.ov_model.specs.Lifetime.{key_made_by}
 use Rattle.ov_model.proofs.Shapes.{settle_kept}
 use Rattle.ov_model.proofs.Times.{times-append, times_first}
 
 -- ---- the keys that a run made
-
--- The serial of the key that an act made.
-abbrev pub key_made_by : Act → Reply → List ℕ
-key_made_by (act.Do (command.KeyNew c)) (reply.Made serial) = serial ∷ []
-key_made_by _ _ = []
 
 abbrev pub keys_made_in : List Entry → List ℕ
 keys_made_in [] = []
@@ -49,10 +45,10 @@ slots_append : (ps qs : List Peer) → slot_serials (ps ++ qs) ≡ slot_serials 
 slots_append [] qs = refl
 slots_append (p ∷ ps) qs = rw (slots_append ps qs, append_assoc) refl
 
-abbrev peer_keys : Peer → List ℕ
+abbrev pub peer_keys : Peer → List ℕ
 peer_keys p = key_serials (keys_in p.slots)
 
-slots_first : (x : ℕ) (p : Peer) (ps : List Peer) → times x (slot_serials (p ∷ ps)) ≡ times x (peer_keys p) + times x (slot_serials ps)
+pub slots_first : (x : ℕ) (p : Peer) (ps : List Peer) → times x (slot_serials (p ∷ ps)) ≡ times x (peer_keys p) + times x (slot_serials ps)
 slots_first x p ps = times-append x (peer_keys p) (slot_serials ps)
 
 slots_remove : (x : ℕ) (ps : List Peer) (i : ℕ) (p : Peer) → slice_get ps i ≡ Some p → times x (slot_serials (remove ps i)) + times x (peer_keys p) ≡ times x (slot_serials ps)
@@ -128,7 +124,7 @@ out_counts x key k (Some a) (Some b) found =
 
 -- Of each serial: what stood in slots and was made is what stands there and was taken out.
 pub record Turns (x : ℕ) (t : Table) (a : Act) (o : Outcome) : Type 0 where
-  slots : times x (slot_serials o.after.live) + times x o.taken ≡ times x (slot_serials t.live) + times x (key_made_by a o.reply)
+  pub slots : times x (slot_serials o.after.live) + times x o.taken ≡ times x (slot_serials t.live) + times x (key_made_by a o.reply)
   pub made : ((key_made_by a o.reply ≡ []) × (o.after.keys_made ≡ t.keys_made)) ⊎ ((key_made_by a o.reply ≡ t.keys_made ∷ []) × (o.after.keys_made ≡ t.keys_made + 1))
 
 -- It changes no slot and makes no key.

@@ -15,3 +15,4 @@ pub mod NonceLaw
 pub mod SealedLaw
 pub mod Places
 pub mod DeliveryLaw
+pub mod LifetimeLaw

@@ -14,3 +14,4 @@ pub mod Keys
 pub mod Legal
 pub mod Laws
 pub mod Delivery
+pub mod Lifetime

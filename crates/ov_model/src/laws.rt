@@ -15,6 +15,7 @@ ghost use Rattle.ov_model.specs.Legal.{Legal};
 ghost use Rattle.ov_model.specs.Keys.{KeysDiffer};
 ghost use Rattle.ov_model.specs.Laws.{answer_at, AcceptsOnce, IsSealed, SealedUnder, NoncesDiffer};
 ghost use Rattle.ov_model.specs.Delivery.{Receives, IsReceived, Delivers};
+ghost use Rattle.ov_model.specs.Lifetime.{PeersStayReleased, KeysStayReleased};
 
 /// In every run the notes of each removal are those of the removed peers, in order, with the reason,
 /// and no peer is removed twice. No removed peer and no key that left its slot is left at the end
@@ -47,4 +48,13 @@ pub fn n2()
 pub fn n3()
     ensures delivered { (script : Script) (first : ℕ) (report : Report) → Legal script first report → (lane line : ℕ) (from : Transport) (bytes : List ℕ) (a : Answer) → Receives report lane line from bytes → answer_at report.lanes lane line ≡ Some a → (id : PeerId) (packet : List ℕ) → (a ≡ Delivered id packet) ↔ Delivers report lane line bytes id packet }
     ensures received { (script : Script) (first : ℕ) (report : Report) → Legal script first report → (lane line : ℕ) (id : PeerId) (packet : List ℕ) → answer_at report.lanes lane line ≡ Some (Delivered id packet) → IsReceived report lane line }
+{}
+
+/// The lifetime law: in every run, no entry after the one that let a peer go names that peer, neither in
+/// its act nor in its reply: the peer isn't held, used, removed, let go or made again. The same holds of
+/// keys. So it is in every legal report.
+pub fn n4()
+    ensures peers { (journal : List Entry) → IsRun journal → PeersStayReleased journal }
+    ensures keys { (journal : List Entry) → IsRun journal → KeysStayReleased journal }
+    ensures report { (script : Script) (first : ℕ) (report : Report) → Legal script first report → PeersStayReleased report.journal × KeysStayReleased report.journal }
 {}
