@@ -5,4 +5,5 @@ pub mod Judging
 pub mod Lines
 pub mod Names
 pub mod Options
+pub mod Stopping
 pub mod Differ

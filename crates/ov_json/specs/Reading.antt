@@ -118,6 +118,10 @@ abbrev pub stop_of : Event → ReadStop
 stop_of (bad_line n) = stop.Bad n
 stop_of (passed limit) = stop.Limit limit
 
+-- An event is told: the answer is that event, or want of memory, which is free.
+abbrev pub IsTold : Event → Result Script ReadStop → Type 0
+IsTold event outcome = (outcome ≡ Err (stop_of event)) ⊎ (outcome ≡ Err stop.Memory)
+
 -- How many lines were found good, where reading the bytes was answered so: all before the one that
 -- stopped it. Of want of memory nothing more is said.
 abbrev pub Counts : List ℕ → Result Script ReadStop → ℕ → Type 0

@@ -64,6 +64,10 @@ pub fn read_script<S: Source>(alloc: Global, source: &mut S, lanes: u32) -> Read
     ensures fault { IfErr result.outcome (λ stop. stop ≡ ReadStop.Read → Rose (S.faults source.old) (S.faults source.new)) }
     ensures not_early { IfErr result.outcome (λ stop. stop ≡ ReadStop.Read → (taken : List ℕ)
         → spec.Gave (S.left source.old) (S.left source.new) taken → (event : spec.Event) → ¬ (spec.Early taken lanes event)) }
+    ensures told_early { (event : spec.Event) → (taken : List ℕ) → spec.Gave (S.left source.old) (S.left source.new) taken
+        → spec.Early taken lanes event → spec.IsTold event result.outcome }
+    ensures told_stop { ¬ (Rose (S.faults source.old) (S.faults source.new)) → (event : spec.Event) → (taken : List ℕ)
+        → spec.Gave (S.left source.old) (S.left source.new) taken → spec.Stop taken lanes event → spec.IsTold event result.outcome }
     ensures counted { (taken : List ℕ) → spec.Gave (S.left source.old) (S.left source.new) taken
         → spec.Counts taken result.outcome result.good }
     ensures good { (taken : List ℕ) → spec.Gave (S.left source.old) (S.left source.new) taken
