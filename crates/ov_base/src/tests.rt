@@ -1,7 +1,6 @@
 use crate::{
-    Addr, Got, ListOf, Memory, MemorySink, MemorySource, Octets, ReadEnd, ReadSource, Sink, Source,
-    SteadySink, SteadySource, Taken, Took, Transport, WriteFault, WriteSink, read_to_end,
-    write_all,
+    Addr, Got, ListOf, Memory, MemorySink, MemorySource, Octets, ReadSource, Sink, Source, SteadySink,
+    SteadySource, Took, Transport, WriteFault, WriteSink, write_all,
 };
 use std::alloc::Global;
 use std::io;
@@ -87,36 +86,17 @@ fn a_source_gives_pieces_and_fails_where_planned(rt: HostRuntime) -> Result<(), 
     Ok(())
 }
 
-/// What is read of the text in pieces of 16 bytes, of which at most `most` are to be taken.
-fn reading(alloc: Global, failing: &[u64], most: usize) -> Result<Taken, Memory> {
-    let failing = numbers(alloc, failing)?;
-    let text = Octets::of(alloc, TEXT)?;
-    let mut source = MemorySource::new(text, 16, failing);
-    Ok(read_to_end(alloc, &mut source, most))
-}
-
-#[test]
-fn reading_ends_at_the_end_the_limit_or_a_fault(rt: HostRuntime) -> Result<(), Fail> {
-    let text = TEXT;
-    assert_eq!(rt; text.len(), 40);
-    let none: &[u64] = &[];
-    let expected: [(&[u64], usize, ReadEnd, &[u8]); 9] = [
-        (none, 40, ReadEnd::Whole, TEXT),
-        (none, 39, ReadEnd::Limit, TEXT),
-        (none, 32, ReadEnd::Limit, TEXT),
-        (none, 31, ReadEnd::Limit, &text[..32]),
-        (none, 0, ReadEnd::Limit, &text[..16]),
-        (&[0], 40, ReadEnd::Fault, &[]),
-        (&[2, 1], 40, ReadEnd::Fault, &text[..16]),
-        (&[3], 40, ReadEnd::Fault, TEXT),
-        (&[4], 40, ReadEnd::Whole, TEXT),
-    ];
-    for (failing, most, end, bytes) in expected {
-        let taken = reading(rt.alloc(), failing, most)?;
-        assert_eq!(rt; taken.end, end, "at most {most}, failing {failing:?}");
-        assert_eq!(rt; taken.bytes.as_slice(), bytes);
+/// All bytes that a source gives in at most 64 reads, and the answer that ended the reading.
+fn drained<S: Source>(alloc: Global, source: &mut S) -> Result<(Vec<u8>, Got), Memory> {
+    let mut bytes = Vec::new(alloc);
+    let mut buffer = [0u8; 64];
+    for _read in 0..64 {
+        match source.read(&mut buffer) {
+            Got::Bytes(count) => bytes.extend_from_slice(&buffer[..count])?,
+            end => return Ok((bytes, end)),
+        }
     }
-    Ok(())
+    Err(Memory)
 }
 
 #[test]
@@ -141,9 +121,9 @@ fn a_sink_that_fails_has_taken_a_prefix(rt: HostRuntime) -> Result<(), Fail> {
 #[test]
 fn the_steady_ones_give_and_take_all(rt: HostRuntime) -> Result<(), Fail> {
     let mut source = SteadySource::new(Octets::of(rt.alloc(), TEXT)?, 7);
-    let taken = read_to_end(rt.alloc(), &mut source, 40);
-    assert_eq!(rt; taken.end, ReadEnd::Whole);
-    assert_eq!(rt; taken.bytes.as_slice(), TEXT);
+    let (bytes, end) = drained(rt.alloc(), &mut source)?;
+    assert_eq!(rt; end, Got::End);
+    assert_eq!(rt; bytes.as_slice(), TEXT);
     assert!(rt; source.left().is_empty());
     let mut sink = SteadySink::new(7);
     assert_eq!(rt; sink.write(TEXT), Took::Bytes(7));
@@ -154,11 +134,11 @@ fn the_steady_ones_give_and_take_all(rt: HostRuntime) -> Result<(), Fail> {
 #[test]
 fn a_reader_and_a_writer_of_std_carry_the_text(rt: HostRuntime) -> Result<(), Fail> {
     let mut source = ReadSource::new(TEXT);
-    let taken = read_to_end(rt.alloc(), &mut source, 40);
-    assert_eq!(rt; taken.end, ReadEnd::Whole);
+    let (bytes, end) = drained(rt.alloc(), &mut source)?;
+    assert_eq!(rt; end, Got::End);
     let mut written = Vec::new(rt.alloc());
     let mut sink = WriteSink::new(&mut written);
-    assert_eq!(rt; write_all(&mut sink, taken.bytes.as_slice()), Ok(()));
+    assert_eq!(rt; write_all(&mut sink, bytes.as_slice()), Ok(()));
     assert_eq!(rt; written.as_slice(), TEXT);
     Ok(())
 }
@@ -200,12 +180,13 @@ impl Write for Broken {
 }
 
 #[test]
-fn an_error_of_std_is_a_fault_and_so_is_a_full_writer(rt: HostRuntime) {
+fn an_error_of_std_is_a_fault_and_so_is_a_full_writer(rt: HostRuntime) -> Result<(), Fail> {
     let mut source = ReadSource::new(Broken { calls: 2 });
-    let taken = read_to_end(rt.alloc(), &mut source, 40);
-    assert_eq!(rt; taken.end, ReadEnd::Fault);
-    assert_eq!(rt; taken.bytes.as_slice(), b"xx".as_slice());
+    let (bytes, end) = drained(rt.alloc(), &mut source)?;
+    assert_eq!(rt; end, Got::Failed);
+    assert_eq!(rt; bytes.as_slice(), b"xx".as_slice());
     let mut sink = WriteSink::new(Broken { calls: 2 });
     assert_eq!(rt; write_all(&mut sink, b"yy"), Ok(()));
     assert_eq!(rt; sink.write(b"y"), Took::Failed);
+    Ok(())
 }

@@ -6,4 +6,5 @@ pub mod Lines
 pub mod Names
 pub mod Options
 pub mod Stopping
+pub mod Streaming
 pub mod Differ

@@ -32,51 +32,55 @@ none_bad lanes pieces lines n h bad =
     let found : (line : Line) × Says bad.bad lanes line = line_at lanes bad.before bad.bad bad.after lines (subst P bad.pieces_are h) in
     bad.not_a_line found.0 found.1
 
--- What stays true while ended lines are read: the lines so far are those of the pieces in front of `rest`.
-pub record Kept (lanes : ℕ) (bytes rest : List ℕ) (lines : List Line) : Type 0 where
+-- What stays true while ended lines are read: the lines read are those of the pieces in front of `rest`,
+-- behind the lines that there were.
+pub record Kept (lanes : ℕ) (bytes rest : List ℕ) (old lines : List Line) : Type 0 where
   pub done : List (List ℕ)
   pub pieces : (cut bytes).ended ≡ done ++ (cut rest).ended
   pub tail : (cut bytes).rest ≡ (cut rest).rest
-  pub said : AreLines lanes done lines
+  pub said : (earlier : List (List ℕ)) → AreLines lanes earlier old → AreLines lanes (earlier ++ done) lines
 
-pub kept_start : (lanes : ℕ) (bytes : List ℕ) (lines : List Line) → lines ≡ [] → Kept lanes bytes bytes lines
-kept_start lanes bytes lines e =
-    let P : List Line → Type 0 = λ ls. AreLines lanes [] ls in
-    record { done = []; pieces = refl; tail = refl; said = subst P (sym e) tt }
+pub kept_start : (lanes : ℕ) (bytes : List ℕ) (lines : List Line) → Kept lanes bytes bytes lines lines
+kept_start lanes bytes lines = record { done = []; pieces = refl; tail = refl; said = λ earlier h. rw (append-nil earlier) h }
 
-pub kept_more : (lanes : ℕ) (bytes rest : List ℕ) (lines : List Line) (piece next : List ℕ) (line : Line) → Kept lanes bytes rest lines → cut rest ≡ line_first piece (cut next) → Says piece lanes line → Kept lanes bytes next (lines ++ line ∷ [])
-kept_more lanes bytes rest lines piece next line k e s = record {
+pub kept_more : (lanes : ℕ) (bytes rest : List ℕ) (old lines : List Line) (piece next : List ℕ) (line : Line) → Kept lanes bytes rest old lines → cut rest ≡ line_first piece (cut next) → Says piece lanes line → Kept lanes bytes next old (lines ++ line ∷ [])
+kept_more lanes bytes rest old lines piece next line k e s = record {
   done = k.done ++ piece ∷ [];
   pieces = k.pieces ∙ ap (λ (c : Cut). k.done ++ c.ended) e ∙ sym (append_assoc k.done (piece ∷ []) (cut next).ended);
   tail = k.tail ∙ ap (λ (c : Cut). c.rest) e;
-  said = lines_more lanes k.done lines piece line k.said s;
+  said = λ earlier h.
+      let P : List (List ℕ) → Type 0 = λ ps. AreLines lanes ps (lines ++ line ∷ []) in
+      subst P (append_assoc earlier k.done (piece ∷ [])) (lines_more lanes (earlier ++ k.done) lines piece line (k.said earlier h) s);
 }
 
-pub kept_bad : (lanes : ℕ) (bytes rest : List ℕ) (lines : List Line) (piece next : List ℕ) → Kept lanes bytes rest lines → cut rest ≡ line_first piece (cut next) → ((line : Line) → ¬ (Says piece lanes line)) → IsFirstBad lanes (cut bytes).ended (length lines + 1)
-kept_bad lanes bytes rest lines piece next k e bad = record {
-  before = k.done;
+pub kept_bad : (lanes : ℕ) (bytes rest : List ℕ) (old lines : List Line) (piece next : List ℕ) → Kept lanes bytes rest old lines → cut rest ≡ line_first piece (cut next) → ((line : Line) → ¬ (Says piece lanes line)) → (earlier : List (List ℕ)) → AreLines lanes earlier old → IsFirstBad lanes (earlier ++ (cut bytes).ended) (length lines + 1)
+kept_bad lanes bytes rest old lines piece next k e bad earlier h = record {
+  before = earlier ++ k.done;
   bad = piece;
   after = (cut next).ended;
-  pieces_are = k.pieces ∙ ap (λ (c : Cut). k.done ++ c.ended) e;
-  number = ap (λ n. n + 1) (lines_count lanes k.done lines k.said);
-  good = (lines, k.said);
+  pieces_are = ap (λ (ps : List (List ℕ)). earlier ++ ps) (k.pieces ∙ ap (λ (c : Cut). k.done ++ c.ended) e) ∙ sym (append_assoc earlier k.done (piece ∷ (cut next).ended));
+  number = ap (λ n. n + 1) (lines_count lanes (earlier ++ k.done) lines (k.said earlier h));
+  good = (lines, k.said earlier h);
   not_a_line = bad;
 }
 
-pub kept_good : (lanes : ℕ) (bytes rest : List ℕ) (lines : List Line) → Kept lanes bytes rest lines → AreGood lanes (cut bytes).ended (length lines)
-kept_good lanes bytes rest lines k = record {
-  good = k.done;
+pub kept_good : (lanes : ℕ) (bytes rest : List ℕ) (old lines : List Line) → Kept lanes bytes rest old lines → (earlier : List (List ℕ)) → AreLines lanes earlier old → AreGood lanes (earlier ++ (cut bytes).ended) (length lines)
+kept_good lanes bytes rest old lines k earlier h = record {
+  good = earlier ++ k.done;
   others = (cut rest).ended;
-  pieces_are = k.pieces;
-  number = lines_count lanes k.done lines k.said;
-  all_good = (lines, k.said);
+  pieces_are = ap (λ (ps : List (List ℕ)). earlier ++ ps) k.pieces ∙ sym (append_assoc earlier k.done (cut rest).ended);
+  number = lines_count lanes (earlier ++ k.done) lines (k.said earlier h);
+  all_good = (lines, k.said earlier h);
 }
 
-pub kept_end : (lanes : ℕ) (bytes rest : List ℕ) (lines : List Line) → Kept lanes bytes rest lines → cut rest ≡ record { ended = []; rest = rest } → AreLines lanes (cut bytes).ended lines × (rest ≡ (cut bytes).rest)
-kept_end lanes bytes rest lines k e =
-    let P : List (List ℕ) → Type 0 = λ ps. AreLines lanes ps lines in
-    let all : (cut bytes).ended ≡ k.done = k.pieces ∙ ap (λ (c : Cut). k.done ++ c.ended) e ∙ append-nil k.done in
-    (subst P (sym all) k.said, sym (k.tail ∙ ap (λ (c : Cut). c.rest) e))
+pub kept_end : (lanes : ℕ) (bytes rest : List ℕ) (old lines : List Line) → Kept lanes bytes rest old lines → cut rest ≡ record { ended = []; rest = rest } → ((earlier : List (List ℕ)) → AreLines lanes earlier old → AreLines lanes (earlier ++ (cut bytes).ended) lines) × (rest ≡ (cut bytes).rest)
+kept_end lanes bytes rest old lines k e =
+    let all : (cut bytes).ended ≡ k.done = k.pieces ∙ ap (λ (c : Cut). k.done ++ c.ended) e ∙ append-nil k.done in (
+      λ earlier h.
+          let P : List (List ℕ) → Type 0 = λ ps. AreLines lanes (earlier ++ ps) lines in
+          subst P (sym all) (k.said earlier h),
+      sym (k.tail ∙ ap (λ (c : Cut). c.rest) e)
+    )
 
 -- A rest of some bytes is one line.
 pub last_is_one : (rest : List ℕ) → 0 < length rest → last_line rest ≡ rest ∷ []

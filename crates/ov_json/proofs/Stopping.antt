@@ -2,19 +2,16 @@
 use Rattle.std.proofs.Common.{◌≡◌, ◌∙◌, ℕ, suc, ◌+◌, ◌<◌, ◌≤◌, ◌⊎◌, inl, inr, Bool, true, false, if◌then◌else◌, nat_le, List, [], ◌∷◌, ◌++◌, length, refl, sym, ap, subst, append_assoc, arith, Err, Option, Some}
 use Rattle.std.proofs.lemmas.Bool.{leb-true}
 use Rattle.std.proofs.lemmas.List.{append_cancel_right}
-use Rattle.ov_base.specs.Loops.{EndsBecause}
 use Rattle.ov_base.specs.Outside.{Rose}
-use Rattle.ov_base.specs.declared.reading.ReadEnd.{ReadEnd}
-use Rattle.ov_base.specs.declared.reading.ReadEnd.TheVariants as end
 use Rattle.ov_model.specs.declared.line.Line.{Line}
 use Rattle.ov_json.specs.declared.script.ReadStop.{ReadStop}
 use Rattle.ov_json.specs.declared.script.ReadStop.TheVariants as stop
 use Rattle.ov_json.specs.declared.script.Limit.TheVariants.{Bytes}
 use Rattle.ov_json.specs.Grammar.{Says}
-use Rattle.ov_json.specs.Reading.{most_bytes, cut, last_line, ended_lines, whole_lines, counted_lines, AreLines, IsFirstBad, IsFirst, Event, bad_line, passed, Early, Stop, HasNoStop, Gave, IsTold, stop_of, Judges}
+use Rattle.ov_json.specs.Reading.{most_bytes, cut, last_line, ended_lines, whole_lines, counted_lines, AreLines, IsFirstBad, IsFirst, Event, bad_line, passed, Early, Stop, HasNoStop, Gave, IsTold, stop_of, HasRead}
 use Rattle.ov_json.proofs.Lines.{none_bad}
 use Rattle.ov_json.proofs.Options.{some_same}
-use Rattle.ov_json.proofs.Judging.{Known, ended_whole, no_stop, stops_known, not_early_known}
+use Rattle.ov_json.proofs.Judging.{ended_whole, no_stop, stops_known, rose_known, not_early_known}
 
 -- A first bad piece stays the first with others behind.
 bad_longer : (lanes : ℕ) (pieces more : List (List ℕ)) (n : ℕ) → IsFirstBad lanes pieces n → IsFirstBad lanes (pieces ++ more) n
@@ -73,34 +70,27 @@ own_stop : (lanes : ℕ) (now : Option (List ℕ)) (taken : List ℕ) (event : E
 own_stop lanes now taken event (inl early) = early_stops lanes taken event early
 own_stop lanes now taken event (inr late) = late.1
 
--- Where the bytes have a stop, an answer that isn't a script tells it, if it isn't a failed read.
-told_known : (lanes : ℕ) (before now : Option (List ℕ)) (bytes : List ℕ) (ended : ReadEnd) (lines : List Line) (s : ReadStop) → Known before now bytes ended → Judges lanes bytes ended lines (Err s) → ¬ (s ≡ stop.Read) → (event : Event) (taken : List ℕ) → Gave before now taken → Stop taken lanes event → IsTold event (Err s)
-told_known lanes before now bytes ended lines (stop.Bad n) k judged not_read event taken gave first =
-    let own : Stop taken lanes (bad_line n) = own_stop lanes now taken (bad_line n) (stops_known lanes before now bytes ended lines (stop.Bad n) k judged (bad_line n) refl taken gave) in
-    inl (ap (λ (e : Event). Err (stop_of e)) (one_event lanes (counted_lines taken) (length taken) (bad_line n) event own first))
-told_known lanes before now bytes ended lines (stop.Limit l) k judged not_read event taken gave first =
-    let own : Stop taken lanes (passed l) = own_stop lanes now taken (passed l) (stops_known lanes before now bytes ended lines (stop.Limit l) k judged (passed l) refl taken gave) in
-    inl (ap (λ (e : Event). Err (stop_of e)) (one_event lanes (counted_lines taken) (length taken) (passed l) event own first))
-told_known lanes before now bytes ended lines stop.Read k judged not_read event taken gave first = absurd (not_read refl)
-told_known lanes before now bytes ended lines stop.Memory k judged not_read event taken gave first = inr refl
+module _ (lanes : ℕ) (before now : Option (List ℕ)) (from to : ℕ) (lines : List Line) where
+  -- Where the bytes have a stop, an answer that isn't a script tells it, if it isn't a failed read.
+  told_known : (s : ReadStop) → HasRead lanes before now from to lines (Err s) → ¬ (s ≡ stop.Read) → (event : Event) (taken : List ℕ) → Gave before now taken → Stop taken lanes event → IsTold event (Err s)
+  told_known (stop.Bad n) k not_read event taken gave first =
+      let own : Stop taken lanes (bad_line n) = own_stop lanes now taken (bad_line n) (stops_known lanes before now from to lines (stop.Bad n) k (bad_line n) refl taken gave) in
+      inl (ap (λ (e : Event). Err (stop_of e)) (one_event lanes (counted_lines taken) (length taken) (bad_line n) event own first))
+  told_known (stop.Limit l) k not_read event taken gave first =
+      let own : Stop taken lanes (passed l) = own_stop lanes now taken (passed l) (stops_known lanes before now from to lines (stop.Limit l) k (passed l) refl taken gave) in
+      inl (ap (λ (e : Event). Err (stop_of e)) (one_event lanes (counted_lines taken) (length taken) (passed l) event own first))
+  told_known stop.Read k not_read event taken gave first = absurd (not_read refl)
+  told_known stop.Memory k not_read event taken gave first = inr refl
 
--- An early event is told in any case: a failed read is answered only where there is none.
-pub told_early : (lanes : ℕ) (before now : Option (List ℕ)) (bytes : List ℕ) (ended : ReadEnd) (lines : List Line) (s : ReadStop) → Known before now bytes ended → Judges lanes bytes ended lines (Err s) → (event : Event) (taken : List ℕ) → Gave before now taken → Early taken lanes event → IsTold event (Err s)
-told_early lanes before now bytes ended lines s k judged event taken gave early =
-    told_known lanes before now bytes ended lines s k judged (λ is. not_early_known lanes before now bytes ended lines s k judged is taken gave event early) event taken gave (early_stops lanes taken event early)
+  -- An early event is told in any case: a failed read is answered only where there is none.
+  pub told_early : (s : ReadStop) → HasRead lanes before now from to lines (Err s) → (event : Event) (taken : List ℕ) → Gave before now taken → Early taken lanes event → IsTold event (Err s)
+  told_early s k event taken gave early =
+      told_known s k (λ is. not_early_known lanes before now from to lines s k is taken gave event early) event taken gave (early_stops lanes taken event early)
 
--- A failed read is answered only where the count of faults rose.
-rose_at_read : (lanes : ℕ) (bytes : List ℕ) (ended : ReadEnd) (lines : List Line) (s : ReadStop) (most n : ℕ) (now : Option (List ℕ)) (from to : ℕ) → Judges lanes bytes ended lines (Err s) → EndsBecause ended most n now from to → s ≡ stop.Read → Rose from to
-rose_at_read lanes bytes ended lines s most n now from to judged because is =
-    let J : ReadStop → Type 0 = λ r. Judges lanes bytes ended lines (Err r) in
-    let E : ReadEnd → Type 0 = λ e. EndsBecause e most n now from to in
-    let named : (ended ≡ end.Fault) × AreLines lanes (ended_lines bytes) lines = subst J is judged in
-    (subst E named.0 because).0
-
--- So any event is told where the count didn't rise.
-pub told_stop : (lanes : ℕ) (before now : Option (List ℕ)) (bytes : List ℕ) (ended : ReadEnd) (lines : List Line) (s : ReadStop) (most n from to : ℕ) → Known before now bytes ended → Judges lanes bytes ended lines (Err s) → EndsBecause ended most n now from to → ¬ (Rose from to) → (event : Event) (taken : List ℕ) → Gave before now taken → Stop taken lanes event → IsTold event (Err s)
-told_stop lanes before now bytes ended lines s most n from to k judged because calm event taken gave first =
-    told_known lanes before now bytes ended lines s k judged (λ is. calm (rose_at_read lanes bytes ended lines s most n now from to judged because is)) event taken gave first
+  -- So any event is told where the count didn't rise.
+  pub told_stop : (s : ReadStop) → HasRead lanes before now from to lines (Err s) → ¬ (Rose from to) → (event : Event) (taken : List ℕ) → Gave before now taken → Stop taken lanes event → IsTold event (Err s)
+  told_stop s k calm event taken gave first =
+      told_known s k (λ is. calm (rose_known lanes before now from to lines s k is)) event taken gave first
 
 -- Where a source has what it had, it gave nothing, and that has no stop.
 pub none_given : (lanes : ℕ) (left : Option (List ℕ)) (taken : List ℕ) → Gave left left taken → HasNoStop taken lanes

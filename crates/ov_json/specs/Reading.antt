@@ -1,9 +1,11 @@
 -- The script of a stream of bytes, or the first event at which the stream stops being one.
 use Rattle.std.specs.Prelude.{◌≡◌, ℕ, ◌+◌, ◌<◌, ◌≤◌, ◌==◌, ◌⊎◌, List, [], ◌∷◌, ◌++◌, length, take, if◌then◌else◌, nat_le, Option, Some, Result, Ok, Err, ⊤}
-use Rattle.ov_base.specs.declared.reading.ReadEnd.{ReadEnd}
-use Rattle.ov_base.specs.declared.reading.ReadEnd.TheVariants as end
+use Rattle.std.specs.Io.KnownBytes.{Consumes, IsAtEnd}
+use Rattle.ov_base.specs.Outside.{Rose}
 use Rattle.ov_model.specs.declared.line.Line.{Line}
 use Rattle.ov_model.specs.declared.line.Script.{Script}
+use Rattle.ov_json.specs.declared.line.LineStop.{LineStop}
+use Rattle.ov_json.specs.declared.line.LineStop.TheVariants as line
 use Rattle.ov_json.specs.declared.script.Limit.{Limit}
 use Rattle.ov_json.specs.declared.script.Limit.TheVariants.{Bytes}
 use Rattle.ov_json.specs.declared.script.ReadStop.{ReadStop}
@@ -131,17 +133,32 @@ Counts bytes (Err (stop.Limit limit)) good = good ≡ length (ended_lines bytes)
 Counts bytes (Err stop.Read) good = good ≡ length (ended_lines bytes)
 Counts bytes (Err stop.Memory) good = ⊤
 
--- So many bytes were taken where reading ended so.
-abbrev pub Suits : ReadEnd → ℕ → Type 0
-Suits end.Whole size = size ≤ most_bytes
-Suits end.Limit size = most_bytes < size
-Suits end.Fault size = size ≤ most_bytes
-Suits end.Memory size = size ≤ most_bytes
+-- The lines that the bytes so far ended, and what follows their last end.
+pub record Reads (lanes : ℕ) (bytes : List ℕ) (lines : List Line) (rest : List ℕ) : Type 0 where
+  pub said : AreLines lanes (cut bytes).ended lines
+  pub rest_is : rest ≡ (cut bytes).rest
 
--- What the lines read of the bytes are, where reading the bytes ended so and was answered so.
-abbrev pub Judges : ℕ → List ℕ → ReadEnd → List Line → Result ⊤ ReadStop → Type 0
-Judges lanes bytes ended lines (Ok done) = (ended ≡ end.Whole) × AreLines lanes (whole_lines bytes) lines
-Judges lanes bytes ended lines (Err (stop.Bad n)) = (n ≡ length lines + 1) × (IsFirstBad lanes (ended_lines bytes) n ⊎ ((ended ≡ end.Whole) × IsFirstBad lanes (whole_lines bytes) n))
-Judges lanes bytes ended lines (Err (stop.Limit Bytes)) = (ended ≡ end.Limit) × AreLines lanes (ended_lines bytes) lines
-Judges lanes bytes ended lines (Err stop.Read) = (ended ≡ end.Fault) × AreLines lanes (ended_lines bytes) lines
-Judges lanes bytes ended lines (Err stop.Memory) = ⊤
+-- A source gave all that it had, and not too much.
+abbrev pub IsWhole : Option (List ℕ) → List ℕ → Type 0
+IsWhole now bytes = IsAtEnd now × (length bytes ≤ most_bytes)
+
+-- What the lines read of the bytes are, where reading them was answered so: the source has left what `now`
+-- tells, and its count of faults went from one number to another.
+abbrev pub Judges : ℕ → Option (List ℕ) → ℕ → ℕ → List ℕ → List Line → Result ⊤ ReadStop → Type 0
+Judges lanes now from to bytes lines (Ok done) = IsWhole now bytes × AreLines lanes (whole_lines bytes) lines
+Judges lanes now from to bytes lines (Err (stop.Bad n)) = (n ≡ length lines + 1) × (IsFirstBad lanes (ended_lines bytes) n ⊎ (IsWhole now bytes × IsFirstBad lanes (whole_lines bytes) n))
+Judges lanes now from to bytes lines (Err (stop.Limit Bytes)) = (most_bytes < length bytes) × AreLines lanes (ended_lines bytes) lines
+Judges lanes now from to bytes lines (Err stop.Read) = Rose from to × (length bytes ≤ most_bytes) × AreLines lanes (ended_lines bytes) lines
+Judges lanes now from to bytes lines (Err stop.Memory) = ⊤
+
+-- What was read of a source: the bytes that it gave, and what the lines are.
+pub record HasRead (lanes : ℕ) (before now : Option (List ℕ)) (from to : ℕ) (lines : List Line) (result : Result ⊤ ReadStop) : Type 0 where
+  pub bytes : List ℕ
+  pub taken : Consumes before now bytes
+  pub judged : Judges lanes now from to bytes lines result
+  pub good : AreGood lanes (counted_lines bytes) (length lines)
+
+-- How a line that wasn't read is answered, after so many good ones.
+abbrev pub line_stop : LineStop → ℕ → ReadStop
+line_stop line.Bad good = stop.Bad (good + 1)
+line_stop line.Memory good = stop.Memory

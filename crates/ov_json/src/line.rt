@@ -7,7 +7,7 @@ ghost use Rattle.ov_json.specs.Grammar.{Says};
 use crate::grammar::line_of;
 use ov_model::Line;
 use serde_json::Value;
-use std::alloc::Global;
+use std::alloc::{AllocError, Global};
 use thiserror::Error;
 
 /// Why a line wasn't read.
@@ -19,6 +19,16 @@ pub enum LineStop {
     /// Want of memory.
     #[error("want of memory")]
     Memory,
+}
+
+impl From<AllocError> for LineStop {
+    ghost use Rattle.ov_json.specs.declared.line.LineStop.TheVariants as cause;
+
+    ghost from_gives = { λ _ stop. stop ≡ cause.Memory };
+
+    fn from(_refused: AllocError) -> LineStop {
+        LineStop::Memory
+    }
 }
 
 /// The line that the bytes say, its line end left out, on one of `lanes` lanes. `Bad` comes exactly where

@@ -13,20 +13,47 @@ use std::alloc::Global;
 /// The byte that ends a line.
 const LINE_END: u8 = b'\n';
 
+/// Reads the lines that a piece of a stream ends. `rest` is what came before the piece behind the last line
+/// end, and then what follows the last one of the piece. Want of memory may leave `rest` with the piece.
+pub fn read_piece(
+    alloc: Global,
+    piece: &[u8],
+    lanes: u32,
+    rest: &mut Vec<u8>,
+    lines: &mut Vec<Line>,
+) -> Result<(), LineStop>
+    ensures ok { OnOk result ((before : List ℕ) → spec.Reads lanes before lines.old.items rest.old.items
+        → spec.Reads lanes (before ++ piece.now) lines.new.items rest.new.items) }
+    ensures bad { IfErr result (λ stop. stop ≡ LineStop.Bad → (before : List ℕ) → spec.Reads lanes before lines.old.items rest.old.items
+        → spec.IsFirstBad lanes (spec.cut (before ++ piece.now)).ended (length lines.new.items + 1)) }
+    ensures good { (before : List ℕ) → spec.Reads lanes before lines.old.items rest.old.items
+        → spec.AreGood lanes (spec.cut (before ++ piece.now)).ended (length lines.new.items) }
+{
+    rest.extend_from_slice(piece)?;
+    // A long line is looked at once it is ended, and not at each of its pieces.
+    if first_piece(piece).is_none() {
+        return Ok(());
+    }
+    let behind = read_ended(alloc, rest.as_slice(), lanes, lines)?;
+    *rest = Vec::from_slice(alloc, behind)?;
+    Ok(())
+}
+
 /// Reads the lines that are ended, in order, up to the first that can't be read, and gives what follows
-/// the last end. `lines` are then the good lines that were read.
-pub fn read_ended<'a>(
+/// the last end. Those that were read are appended to `lines`.
+fn read_ended<'a>(
     alloc: Global,
     bytes: &'a [u8],
     lanes: u32,
     lines: &mut Vec<Line>,
 ) -> Result<&'a [u8], LineStop>
-    requires { lines.old.items ≡ [] }
-    ensures ok { OnOk result (spec.AreLines lanes (spec.cut bytes.now).ended lines.new.items) }
+    ensures ok { OnOk result ((pieces : List (List ℕ)) → spec.AreLines lanes pieces lines.old.items
+        → spec.AreLines lanes (pieces ++ (spec.cut bytes.now).ended) lines.new.items) }
     ensures rest { IfOk result (λ rest. rest.now ≡ (spec.cut bytes.now).rest) }
-    ensures bad { IfErr result (λ stop. stop ≡ LineStop.Bad
-        → spec.IsFirstBad lanes (spec.cut bytes.now).ended (length lines.new.items + 1)) }
-    ensures good { spec.AreGood lanes (spec.cut bytes.now).ended (length lines.new.items) }
+    ensures bad { IfErr result (λ stop. stop ≡ LineStop.Bad → (pieces : List (List ℕ)) → spec.AreLines lanes pieces lines.old.items
+        → spec.IsFirstBad lanes (pieces ++ (spec.cut bytes.now).ended) (length lines.new.items + 1)) }
+    ensures good { (pieces : List (List ℕ)) → spec.AreLines lanes pieces lines.old.items
+        → spec.AreGood lanes (pieces ++ (spec.cut bytes.now).ended) (length lines.new.items) }
 {
     let mut rest = bytes;
     'ends: while let Some((piece, next)) = first_piece(rest) {

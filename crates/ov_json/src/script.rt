@@ -1,20 +1,23 @@
-//! The script of a source: its bytes cut into lines, each read once.
+//! The script of a source: its bytes, read piece by piece, cut into lines, each read once.
 
-ghost use Rattle.std.specs.Prelude.{◌≡◌, ◌≤◌, ◌⊎◌, ℕ, List, [], Some, length, take, IfOk, IfErr, OnOk};
+ghost use Rattle.std.specs.Prelude.{◌≡◌, ◌<◌, ◌≤◌, ◌⊎◌, ℕ, List, [], Some, length, IfOk, IfErr, OnOk};
 ghost use Rattle.std.specs.List.{AllByRecursion};
 ghost use Rattle.ov_base.specs.Outside.{Rose};
 ghost use Rattle.ov_model.specs.Sizes.{Fits};
 ghost use Rattle.ov_json.specs.Reading as spec;
 
 use crate::line::LineStop;
-use crate::pieces::{read_ended, read_last};
-use ov_base::{ListOf, ReadEnd, Source, read_to_end};
+use crate::pieces::{read_last, read_piece};
+use ov_base::{Got, ListOf, Source};
 use ov_model::{Line, Script};
 use std::alloc::Global;
 use thiserror::Error;
 
 /// The most bytes that a script has.
 pub const MOST_BYTES: usize = 67_108_864;
+
+/// The most bytes that one read takes.
+const PIECE: usize = 65_536;
 
 /// A limit that a script passed.
 #[derive(Clone, Copy, Debug, PartialEq, Eq)]
@@ -49,10 +52,10 @@ pub struct Reading {
     pub outcome: Result<Script, ReadStop>,
 }
 
-/// Reads `source` to its end, or to the piece in which it gives more than `MOST_BYTES` bytes, and then its
-/// lines in order, each once, on `lanes` lanes. A line outside the grammar is `Bad`, and comes before
-/// `Limit` and `Read` where it was ended; `Limit` comes where there are too many bytes; `Read` only where a
-/// read failed. Want of memory alone is free.
+/// Reads `source` piece by piece, to its end or to the piece in which it gives more than `MOST_BYTES` bytes,
+/// and its lines in order, each once, on `lanes` lanes, before the next piece. A line outside the grammar is
+/// `Bad`, and comes before `Limit` and `Read` where it was ended; `Limit` comes where there are too many
+/// bytes; `Read` only where a read failed. Want of memory alone is free.
 pub fn read_script<S: Source>(alloc: Global, source: &mut S, lanes: u32) -> Reading
     ensures script { IfOk result.outcome (λ script. (taken : List ℕ) → spec.Gave (S.left source.old) (S.left source.new) taken
         → (S.left source.new ≡ Some []) × spec.IsScript taken lanes script) }
@@ -75,9 +78,8 @@ pub fn read_script<S: Source>(alloc: Global, source: &mut S, lanes: u32) -> Read
     ensures later { S.faults source.old ≤ S.faults source.new }
     ensures fits { IfOk result.outcome (λ script. AllByRecursion (λ line. Fits line.deed) script.lines) }
 {
-    let taken = read_to_end(alloc, source, most_bytes());
     let mut lines = Vec::new(alloc);
-    if let Err(stop) = read_lines(alloc, taken.bytes.as_slice(), taken.end, lanes, &mut lines) {
+    if let Err(stop) = read_lines(alloc, source, lanes, &mut lines) {
         return Reading {
             good: lines.len() as u64,
             outcome: Err(stop),
@@ -91,33 +93,70 @@ pub fn read_script<S: Source>(alloc: Global, source: &mut S, lanes: u32) -> Read
     }
 }
 
-/// Reads the lines of the bytes that were taken, up to the event at which reading them stops.
-fn read_lines(
+/// Reads the lines of a source, by way of a buffer for its pieces, up to the event at which reading stops.
+fn read_lines<S: Source>(
     alloc: Global,
-    bytes: &[u8],
-    end: ReadEnd,
+    source: &mut S,
     lanes: u32,
     lines: &mut Vec<Line>,
 ) -> Result<(), ReadStop>
     requires empty { lines.old.items ≡ [] }
-    requires size { spec.Suits end (length bytes.now) }
-    ensures judged { spec.Judges lanes bytes.now end lines.new.items result }
-    ensures good { spec.AreGood lanes (spec.counted_lines bytes.now) (length lines.new.items) }
+    ensures read { spec.HasRead lanes (S.left source.old) (S.left source.new) (S.faults source.old) (S.faults source.new) lines.new.items result }
+    ensures later { S.faults source.old ≤ S.faults source.new }
 {
-    let rest = match read_ended(alloc, front(bytes), lanes, lines) {
-        Ok(rest) => rest,
-        Err(LineStop::Bad) => return Err(ReadStop::Bad(lines.len() as u64 + 1)),
-        Err(LineStop::Memory) => return Err(ReadStop::Memory),
-    };
-    match end {
-        ReadEnd::Whole => match read_last(alloc, rest, lanes, lines) {
-            Ok(()) => Ok(()),
-            Err(LineStop::Bad) => Err(ReadStop::Bad(lines.len() as u64 + 1)),
-            Err(LineStop::Memory) => Err(ReadStop::Memory),
-        },
-        ReadEnd::Limit => Err(ReadStop::Limit(Limit::Bytes)),
-        ReadEnd::Fault => Err(ReadStop::Read),
-        ReadEnd::Memory => Err(ReadStop::Memory),
+    match Vec::from_elem(alloc, 0, PIECE) {
+        Ok(mut buffer) => read_pieces(alloc, source, lanes, buffer.as_mut_slice(), lines),
+        Err(_) => Err(ReadStop::Memory),
+    }
+}
+
+/// Reads a source piece by piece, and the lines that each piece ends before the next. Besides the lines,
+/// one piece and one line are in memory at a time.
+fn read_pieces<S: Source>(
+    alloc: Global,
+    source: &mut S,
+    lanes: u32,
+    buffer: &mut [u8],
+    lines: &mut Vec<Line>,
+) -> Result<(), ReadStop>
+    requires room { 0 < length buffer.old }
+    requires empty { lines.old.items ≡ [] }
+    ensures read { spec.HasRead lanes (S.left source.old) (S.left source.new) (S.faults source.old) (S.faults source.new) lines.new.items result }
+    ensures later { S.faults source.old ≤ S.faults source.new }
+{
+    let mut rest = Vec::new(alloc);
+    // How many bytes may still come.
+    let mut room = most_bytes();
+    'pieces: loop {
+        match source.read(buffer) {
+            Got::Bytes(count) => {
+                let piece = &buffer[..count.min(room)];
+                if let Err(stop) = read_piece(alloc, piece, lanes, &mut rest, lines) {
+                    return Err(stop_at(stop, lines.as_slice()));
+                }
+                if count > room {
+                    return Err(ReadStop::Limit(Limit::Bytes));
+                }
+                room -= count;
+            }
+            Got::End => {
+                if let Err(stop) = read_last(alloc, rest.as_slice(), lanes, lines) {
+                    return Err(stop_at(stop, lines.as_slice()));
+                }
+                return Ok(());
+            }
+            Got::Failed => return Err(ReadStop::Read),
+        }
+    }
+}
+
+/// Why reading ends at a line that wasn't read, after these good ones.
+fn stop_at(stop: LineStop, good: &[Line]) -> ReadStop
+    ensures { result ≡ spec.line_stop stop (length good.now) }
+{
+    match stop {
+        LineStop::Bad => ReadStop::Bad(good.len() as u64 + 1),
+        LineStop::Memory => ReadStop::Memory,
     }
 }
 
@@ -127,15 +166,4 @@ fn most_bytes() -> usize
     ensures { result ≡ spec.most_bytes }
 {
     MOST_BYTES
-}
-
-/// The bytes as far as a script may go.
-fn front(bytes: &[u8]) -> &[u8]
-    ensures { result.now ≡ take spec.most_bytes bytes.now }
-{
-    let most = most_bytes();
-    if bytes.len() > most {
-        return &bytes[..most];
-    }
-    bytes
 }

@@ -4,7 +4,7 @@ use Rattle.ov_json.proofs.Lines.{Kept}
 use Rattle.ov_json.proofs.pieces.read_ended.Given as goal
 
 abbrev pub invariant-ends : goal.invariant-ends
-invariant-ends l = Kept l.lanes l.bytes l.rest l.lines.items
+invariant-ends l = Kept l.lanes l.bytes l.rest l.fn.lines.items l.lines.items
 
 abbrev pub decreases-ends : goal.decreases-ends
 decreases-ends l = length l.rest
