@@ -27,6 +27,10 @@ abbrev pub cause_of : Event → Cause
 cause_of (bad_line n) = cause.BadLine n
 cause_of (passed limit) = cause.Limit limit
 
+-- An event is told: the cause is that event, or want of memory, which is free.
+abbrev pub IsTold : Event → Cause → Type 0
+IsTold event told = (told ≡ cause_of event) ⊎ (told ≡ cause.Memory)
+
 abbrev pub cause_of_stop : ReadStop → Cause
 cause_of_stop stop.Read = cause.ReadFault
 cause_of_stop (stop.Bad n) = cause.BadLine n

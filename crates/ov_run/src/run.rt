@@ -95,9 +95,13 @@ pub fn run_serial<S: Source, K: Sink>(
     ensures unread { result.cause ≡ cause.Usage → (source.new ≡ source.old) × (sink.new ≡ sink.old) }
 
     // Stops: a bad line or a limit comes from the bytes, a read fault from the source, and then nothing
-    // is run or written.
+    // is run or written. Conversely, what the bytes stop at is told, or want of memory: always where they
+    // show it while the source may go on, and else where no read failed.
     ensures stops { (event : reading.Event) → result.cause ≡ spec.cause_of event → spec.ComesFrom (S.left source.old) (S.left source.new) event }
     ensures read_fault { result.cause ≡ cause.ReadFault → Rose (S.faults source.old) (S.faults source.new) }
+    ensures early { (event : reading.Event) → (taken : List ℕ) → reading.Gave (S.left source.old) (S.left source.new) taken → reading.Early taken 1 event → spec.IsTold event result.cause }
+    ensures told { ¬ (Rose (S.faults source.old) (S.faults source.new)) → (event : reading.Event) → (taken : List ℕ) → reading.Gave (S.left source.old) (S.left source.new) taken → reading.Stop taken 1 event → spec.IsTold event result.cause }
+    ensures not_early { result.cause ≡ cause.ReadFault → (taken : List ℕ) → reading.Gave (S.left source.old) (S.left source.new) taken → (event : reading.Event) → ¬ (reading.Early taken 1 event) }
     ensures unrun { spec.IsStop result.cause → (result.report ≡ None) × (sink.new ≡ sink.old) }
 
     // The report, and what is written of its text.

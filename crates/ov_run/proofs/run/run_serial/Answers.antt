@@ -1,4 +1,5 @@
--- The script was read whole and run: its report is legal.
+-- The script was read whole and run: its report is legal. Where nothing was read, there is no stop to tell.
+use Rattle.ov_json.proofs.Stopping.{early_stops, none_given}
 use Rattle.ov_run.proofs.Reporting.{reported, all_counted, stop_counted}
 use Rattle.ov_run.proofs.run.run_serial.Goals as goal
 
@@ -12,3 +13,9 @@ returns-in-Ok-clause-counted g c = λ taken gave. all_counted taken c.in-Ok.scri
 
 pub returns-in-Err-clause-counted : goal.returns-in-Err-clause-counted
 returns-in-Err-clause-counted g c = λ taken gave. rw c.cause_of.ensures (stop_counted taken c.read_script-good.result.good c.in-Err.stop ((rw c.in-Err.is at c.read_script-good.ensures.counted) taken gave))
+
+pub returns-then-not-is_trace-clause-early : goal.returns-then-not-is_trace-clause-early
+returns-then-not-is_trace-clause-early g c = λ event taken gave early. absurd (none_given 1 _ taken gave event (early_stops 1 taken event early))
+
+pub returns-then-not-is_trace-clause-told : goal.returns-then-not-is_trace-clause-told
+returns-then-not-is_trace-clause-told g c = λ calm event taken gave first. absurd (none_given 1 _ taken gave event first)
