@@ -8,5 +8,4 @@ mod lines;
 mod past;
 mod session;
 
-pub use desk::SerialDesk;
 pub use session::run_script;
