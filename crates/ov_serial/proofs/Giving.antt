@@ -1,5 +1,5 @@
 -- What the give-backs, the releases and a new line make of the desk.
-use Rattle.std.proofs.Common.{ℕ, ◌≡◌, ◌+◌, ◌≤◌, ◌⊎◌, inl, inr, List, [], ◌∷◌, ◌++◌, length, refl, sym, ◌∙◌, ap, subst, arith, append-nil, length-append, true, false}
+use Rattle.std.proofs.Common.{ℕ, ◌≡◌, ◌+◌, ◌-◌, ◌≤◌, ◌⊎◌, inl, inr, List, [], ◌∷◌, ◌++◌, length, refl, sym, ◌∙◌, ap, subst, arith, append-nil, length-append, true, false}
 use Rattle.std.specs.Prelude.{map, max, drop, Some, None}
 use Rattle.ov_model.specs.declared.place.Place.{Place}
 use Rattle.ov_model.specs.declared.act.Act.TheVariants as act
@@ -14,14 +14,15 @@ use Rattle.ov_model.specs.declared.stand.Stand.TheVariants as stand
 use Rattle.ov_model.specs.declared.stand.Use.TheVariants as used
 use Rattle.ov_model.specs.Tables.{Peer, Key, Table, key_serials}
 use Rattle.ov_model.specs.Step.{step, may_act, key_released}
-use Rattle.ov_model.specs.Events.{Stepped, GaveKey, GavePeer, Step, release_of}
+use Rattle.ov_model.specs.Events.{Event, Stepped, GaveKey, GavePeer, Step, release_of}
 use Rattle.ov_model.specs.Next.{stand_of}
 use Rattle.ov_model.proofs.Removing.{serials, LetsGo, lets_go, LetsKeyGo, lets_key_go}
 use Rattle.ov_path.specs.Desks.{Shown, Holding, NoHold, Both, PeerLeft, HoldsKey, LeftPeer, peer_left, owed_if, first_owed, after_first}
 use Rattle.ov_table.specs.Recorded.{stepped, entry_of, is_release, first_waiting, waiting_of}
 use Rattle.ov_table.proofs.Told.{told_step}
+use Rattle.ov_serial.specs.declared.past.Mark.{Mark}
 use Rattle.ov_serial.specs.declared.past.Mark.TheVariants as mark
-use Rattle.ov_serial.specs.Desks.{Serial, shown_of, waiting, owing_of, steps_marked, debt, killed_by, IsHeldSound, Sound, Happened, SpentIsDry, RoomAfter, step_made, owed_by, given_where, after_key, after_peer, release_call, after_release, after_begin}
+use Rattle.ov_serial.specs.Desks.{Serial, events_of, shown_of, waiting, owing_of, steps_marked, debt, killed_by, IsHeldSound, Sound, Happened, SpentIsDry, RoomAfter, step_made, owed_by, given_where, after_key, after_peer, release_call, after_release, after_begin}
 use Rattle.ov_serial.proofs.Marks.{shown_stepped, shown_marked, marked_step, marked_other}
 use Rattle.ov_serial.proofs.Marking.{MarkDone, shown_by}
 use Rattle.ov_serial.proofs.Acts.{keys_made_by}
@@ -41,6 +42,45 @@ pub owed_first : (h : Holding) (t : Table) → first_owed (owing_of h t) ≡ owe
 owed_first NoHold t = first_waits t
 owed_first (Both h) t = refl
 owed_first (PeerLeft h) t = first_waits t
+
+-- ---- either give-back
+
+-- The desk with one mark more, and what is held then.
+abbrev given_back : Serial → Mark → Holding → Serial
+given_back d m hold = record d { hold = hold; marks = d.marks ++ m ∷ []; room = d.room - 1 }
+
+-- A give-back adds to what is owed, and takes at least one mark off those that may still come.
+record Leaves (d : Serial) (hold left : Holding) (s : Stand) (owes : List Owed) : Type 0 where
+  owing : owing_of left d.table.now ≡ owing_of hold d.table.now ++ owes
+  spare : (after : Stand) → debt left after + length (owing_of left d.table.now) + 1 ≤ debt hold s + length (owing_of hold d.table.now)
+  held : (e : Serial) (after : Stand) → e.table ≡ d.table → IsHeldSound e left after
+
+given_done : (d : Serial) (m : Mark) (event : Event) (left : Holding) (owes : List Owed) → Sound d → events_of (m ∷ []) [] ≡ event ∷ [] → steps_marked (m ∷ []) ≡ 0 → ((d.room - 1) + 1 ≡ d.room → Happened d event (given_back d m left)) → Leaves d d.hold left (stand_of (shown_of d).events) owes
+    → MarkDone d (given_back d m left) event left ((shown_of d).owing ++ owes)
+given_done d m event left owes sound is no_step happens leaves =
+    let e : Serial = given_back d m left in
+    let s : Stand = stand_of (shown_of d).events in
+    let events : (shown_of e).events ≡ (shown_of d).events ++ event ∷ [] = shown_marked d e m event sound.marked refl refl refl is in
+    let after : Stand = stand_of (shown_of e).events in
+    let marks : steps_marked e.marks ≡ steps_marked d.marks = marked_other d.marks m no_step in
+    let was : d.start + steps_marked d.marks ≡ length d.table.journal = sound.marked in
+    let spare : debt d.hold s + length (shown_of d).owing ≤ d.room = sound.spare in
+    let fewer : debt left after + length (owing_of left d.table.now) + 1 ≤ debt d.hold s + length (shown_of d).owing = leaves.spare after in
+    record {
+      shown_is = shown_by e ((shown_of d).events ++ event ∷ []) ((shown_of d).owing ++ owes) events leaves.owing;
+      done = happens (omega arith);
+      sound = record {
+        told = sound.told;
+        eight = sound.eight;
+        numbers = sound.numbers;
+        made = sound.made;
+        first = sound.first;
+        counters = sound.counters;
+        marked = omega arith;
+        spare = omega arith;
+        held = leaves.held e after refl;
+      };
+    }
 
 -- ---- the key
 
@@ -78,13 +118,6 @@ killed_which h (stand.Used v (used.Settled x)) = inl refl
 killed_which h (stand.KeyGiven v u) = inl refl
 killed_which h (stand.PeerGiven v u) = inl refl
 
--- A hold on both whose key is given back.
-record LeavesKey (d : Serial) (hold : Holding) (s : Stand) (key : ℕ) : Type 0 where
-  owing : owing_of (peer_left hold) d.table.now ≡ owing_of hold d.table.now ++ owed_if (given_where (first_waiting d.table.now)) (owed.Key key)
-  few : length (owing_of (peer_left hold) d.table.now) ≤ 1
-  held : (e : Serial) (after : Stand) → e.table ≡ d.table → IsHeldSound e (peer_left hold) after
-  debt_now : (after : Stand) → debt (peer_left hold) after + 2 ≤ debt hold s
-
 few_given : (g : Given) (o : Owed) → length (owed_if g o) ≤ 1
 few_given given.More o = omega arith
 few_given given.Last o = omega arith
@@ -100,86 +133,35 @@ both_debt h (stand.Used v u) = omega arith
 both_debt h (stand.KeyGiven v u) = omega arith
 both_debt h (stand.PeerGiven v u) = omega arith
 
-leaves_key : (d : Serial) (hold : Holding) (s : Stand) (key : ℕ) → IsHeldSound d hold s → HoldsKey hold key → LeavesKey d hold s key
+leaves_key : (d : Serial) (hold : Holding) (s : Stand) (key : ℕ) → IsHeldSound d hold s → HoldsKey hold key → Leaves d hold (peer_left hold) s (owed_if (given_where (first_waiting d.table.now)) (owed.Key key))
 leaves_key d (Both h) s key held names =
     let which : (killed_by h s ≡ []) ⊎ (killed_by h s ≡ key ∷ []) = subst (λ k. (killed_by h s ≡ []) ⊎ (killed_by h s ≡ k ∷ [])) names (killed_which h s) in
     let back : KeyBack d.table.now key = key_waits d.table.now key (killed_by h s) held.killed held.none_dying which in
     let most : 3 ≤ debt (Both h) s = both_debt h s in
-    record {
-      owing = back.waits;
-      few = rw back.waits (few_given (given_where (first_waiting d.table.now)) (owed.Key key));
-      held = λ e after same. rw same held.none_dying;
-      debt_now = λ after. omega arith;
-    }
+    let few : length (waiting d.table.now) ≤ 1 = rw back.waits (few_given (given_where (first_waiting d.table.now)) (owed.Key key)) in
+    record { owing = back.waits; spare = λ after. omega arith; held = λ e after same. rw same held.none_dying }
 leaves_key d NoHold s key held names = absurd names
 leaves_key d (PeerLeft h) s key held names = absurd names
 
 pub key_done : (d : Serial) (key : ℕ) → Sound d → HoldsKey d.hold key → MarkDone d (after_key d key) (GaveKey key (given_where (first_waiting d.table.now))) (peer_left d.hold) ((shown_of d).owing ++ owed_if (given_where (first_waiting d.table.now)) (owed.Key key))
 key_done d key sound names =
-    let e : Serial = after_key d key in
     let g : Given = given_where (first_waiting d.table.now) in
-    let s : Stand = stand_of (shown_of d).events in
-    let leaves : LeavesKey d d.hold s key = leaves_key d d.hold s key sound.held names in
-    let events : (shown_of e).events ≡ (shown_of d).events ++ GaveKey key g ∷ [] = shown_marked d e (mark.GaveKey key g) (GaveKey key g) sound.marked refl refl refl refl in
-    let after : Stand = stand_of (shown_of e).events in
-    let marks : steps_marked e.marks ≡ steps_marked d.marks = marked_other d.marks (mark.GaveKey key g) refl in
-    let was : d.start + steps_marked d.marks ≡ length d.table.journal = sound.marked in
-    let spare : debt d.hold s + length (shown_of d).owing ≤ d.room = sound.spare in
-    let lower : debt (peer_left d.hold) after + 2 ≤ debt d.hold s = leaves.debt_now after in
-    let few : length (owing_of (peer_left d.hold) d.table.now) ≤ 1 = leaves.few in
-    record {
-      shown_is = shown_by e ((shown_of d).events ++ GaveKey key g ∷ []) ((shown_of d).owing ++ owed_if g (owed.Key key)) events leaves.owing;
-      done = record { makes = record { table = refl; shards = refl; next = λ k. refl }; room = omega arith; first = refl; start = refl };
-      sound = record {
-        told = sound.told;
-        eight = sound.eight;
-        numbers = sound.numbers;
-        made = sound.made;
-        first = sound.first;
-        counters = sound.counters;
-        marked = omega arith;
-        spare = omega arith;
-        held = leaves.held e after refl;
-      };
-    }
+    given_done d (mark.GaveKey key g) (GaveKey key g) (peer_left d.hold) (owed_if g (owed.Key key)) sound refl refl
+    (λ less. record { makes = record { table = refl; shards = refl; next = λ k. refl }; room = less; first = refl; start = refl })
+    (leaves_key d d.hold (stand_of (shown_of d).events) key sound.held names)
 
 -- ---- the peer
 
-record LeavesPeer (hold : Holding) (t : Table) (s : Stand) : Type 0 where
-  owing : waiting t ≡ owing_of hold t ++ []
-  lower : 1 ≤ debt hold s
-
-leaves_peer : (hold : Holding) (t : Table) (s : Stand) (peer : ℕ) → LeftPeer hold peer → LeavesPeer hold t s
-leaves_peer (PeerLeft h) t s peer names = record { owing = sym (append-nil (waiting t)); lower = omega arith }
-leaves_peer NoHold t s peer names = absurd names
-leaves_peer (Both h) t s peer names = absurd names
+leaves_peer : (d : Serial) (hold : Holding) (s : Stand) (peer : ℕ) → LeftPeer hold peer → Leaves d hold NoHold s []
+leaves_peer d (PeerLeft h) s peer names = record { owing = sym (append-nil (waiting d.table.now)); spare = λ after. omega arith; held = λ e after same. tt }
+leaves_peer d NoHold s peer names = absurd names
+leaves_peer d (Both h) s peer names = absurd names
 
 pub peer_done : (d : Serial) (peer : ℕ) → Sound d → LeftPeer d.hold peer → MarkDone d (after_peer d peer) (GavePeer peer given.More) NoHold ((shown_of d).owing ++ [])
 peer_done d peer sound names =
-    let e : Serial = after_peer d peer in
-    let s : Stand = stand_of (shown_of d).events in
-    let leaves : LeavesPeer d.hold d.table.now s = leaves_peer d.hold d.table.now s peer names in
-    let events : (shown_of e).events ≡ (shown_of d).events ++ GavePeer peer given.More ∷ [] = shown_marked d e (mark.GavePeer peer given.More) (GavePeer peer given.More) sound.marked refl refl refl refl in
-    let marks : steps_marked e.marks ≡ steps_marked d.marks = marked_other d.marks (mark.GavePeer peer given.More) refl in
-    let was : d.start + steps_marked d.marks ≡ length d.table.journal = sound.marked in
-    let spare : debt d.hold s + length (shown_of d).owing ≤ d.room = sound.spare in
-    let same : length (waiting d.table.now) ≡ length (shown_of d).owing = ap length (leaves.owing ∙ append-nil (owing_of d.hold d.table.now)) in
-    let lower : 1 ≤ debt d.hold s = leaves.lower in
-    record {
-      shown_is = shown_by e ((shown_of d).events ++ GavePeer peer given.More ∷ []) ((shown_of d).owing ++ []) events leaves.owing;
-      done = record { makes = record { table = refl; shards = refl; next = λ k. refl }; room = omega arith; first = refl; start = refl };
-      sound = record {
-        told = sound.told;
-        eight = sound.eight;
-        numbers = sound.numbers;
-        made = sound.made;
-        first = sound.first;
-        counters = sound.counters;
-        marked = omega arith;
-        spare = omega arith;
-        held = tt;
-      };
-    }
+    given_done d (mark.GavePeer peer given.More) (GavePeer peer given.More) NoHold [] sound refl refl
+    (λ less. record { makes = record { table = refl; shards = refl; next = λ k. refl }; room = less; first = refl; start = refl })
+    (leaves_peer d d.hold (stand_of (shown_of d).events) peer names)
 
 -- ---- a release
 

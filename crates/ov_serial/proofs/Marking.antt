@@ -20,6 +20,7 @@ use Rattle.ov_path.specs.Desks.{Shown, Holding, NoHold, Both, PeerLeft, IsLooked
 use Rattle.ov_table.specs.Recorded.{Recorded}
 use Rattle.ov_serial.specs.declared.past.Mark.{Mark}
 use Rattle.ov_serial.specs.declared.past.Mark.TheVariants as mark
+use Rattle.ov_serial.specs.Pasts.{Past}
 use Rattle.ov_serial.specs.Desks.{Serial, shown_of, next_of, owing_of, steps_marked, debt, Ready, HoldSound, IsHeldSound, Sound, Happened, Draws, drawn_of, next_after, judgement_at, after_judged, after_draw}
 use Rattle.ov_serial.proofs.Marks.{shown_marked, marked_other}
 use Rattle.ov_serial.proofs.Calling.{seen, debt_most}
@@ -243,6 +244,10 @@ same_desk e d table shards first next marks room start hold =
     ∙ ap (λ r. F d.table d.shards d.first d.next d.marks r e.start e.hold) room
     ∙ ap (λ b. F d.table d.shards d.first d.next d.marks d.room b e.hold) start
     ∙ ap (λ h. F d.table d.shards d.first d.next d.marks d.room d.start h) hold
+
+-- The desk with other marks and another hold: the rest is as it was.
+abbrev pub marked_as : Serial → Past → Holding → Serial
+marked_as d past hold = record d { marks = past.marks; room = past.room; hold = hold }
 
 pub read_next : (xs : List ℕ) (k x d : ℕ) → k < length xs → x ≡ slice_index_or xs k x → x ≡ get_or xs k d
 read_next [] k x d below is = absurd (omega arith)

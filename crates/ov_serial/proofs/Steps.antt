@@ -24,7 +24,7 @@ use Rattle.ov_model.specs.declared.stand.Use.{Use}
 use Rattle.ov_model.specs.declared.stand.Use.TheVariants as used
 use Rattle.ov_model.specs.declared.reply.Settled.{Settled}
 use Rattle.ov_model.specs.Tables.{Table, Material, key_serials}
-use Rattle.ov_model.specs.Step.{Outcome, step, command_step, tx_look, rx_look, sent, settle, spend}
+use Rattle.ov_model.specs.Step.{Outcome, step, may_act, command_step, sent, settle, spend}
 use Rattle.ov_model.specs.Events.{Stepped, Step}
 use Rattle.ov_model.specs.Path.{IsLook, SomeOwed, removed, spent_taken, spent_reply}
 use Rattle.ov_model.specs.Next.{see, stand_of, looked, is_killed}
@@ -154,45 +154,48 @@ empty_waits t o none keeps = nothing_waits o.after (rw keeps.retired none.keys) 
 few_looked : (h : Holding) (t u : Table) (r : Reply) → h ≡ NoHold → waiting t ≡ [] → waiting u ≡ [] → IsLookReply r → length (owing_of (look_holds h r) u) ≤ 4
 few_looked h t u r free was now fits = rw (look_owing h t u r free was now fits) (rw free (rw was (omega arith)))
 
+-- What a look-up at a free desk leaves, by whichever way it looks.
+record LookLeaves (d : Serial) (place : Place) (call : Call) (r : Reply) : Type 0 where
+  fits : IsLookReply r
+  taken : (step d.table.now call).taken ≡ []
+  has : HoldHas (material_of_desk (after_step d place call r)) r
+  owing : owing_of (look_holds d.hold r) (step d.table.now call).after ≡ owing_of d.hold d.table.now ++ []
+  few : length (owing_of (look_holds d.hold r) (step d.table.now call).after) ≤ 4
+  held : IsHeldSound (after_step d place call r) (look_holds d.hold r) (looked r)
+
+look_leaves : (d : Serial) (place : Place) (call : Call) (r : Reply) → Sound d → IsFree (shown_of d) → may_act d.table.now call.act ≡ true → r ≡ (step d.table.now call).reply → Looks d.table.now (step d.table.now call) → Keeps d.table.now (step d.table.now call) → HoldsInstalled (after_step d place call r) r → LookLeaves d place call r
+look_leaves d place call r sound free may reply_is looks keeps installed =
+    let o : Outcome = step d.table.now call in
+    let e : Serial = after_step d place call r in
+    let none : NoneWaits d.table.now = free_waits d free in
+    let fits : IsLookReply r = rw reply_is looks.fits in
+    let was : waiting d.table.now ≡ [] = nothing_waits d.table.now none.keys none.peers in
+    let is_now : waiting o.after ≡ [] = empty_waits d.table.now o none keeps in
+    let told : IsTold (stepped d.table place call) = told_step d.table place call may sound.told in
+    record {
+      fits = fits;
+      taken = keeps.taken;
+      has = hold_has e r installed fits;
+      owing = look_owing d.hold d.table.now o.after r free.0 was is_now fits;
+      few = few_looked d.hold d.table.now o.after r free.0 was is_now fits;
+      held = look_held e d.hold r free.0 fits (λ v is. let m = installed v is in look_sound d e o v m.0 none looks keeps (sym reply_is ∙ is) refl told (made_now d place call r sound reply_is) m.1);
+    }
+
 tx_done : (d : Serial) (place : Place) (at : ℕ) (a : Addr) (r : Reply) → Sound d → IsFree (shown_of d) → r ≡ (step d.table.now (record { at = at; act = act.TxLook a })).reply → HoldsInstalled (after_step d place (record { at = at; act = act.TxLook a }) r) r → CallDone d place (record { at = at; act = act.TxLook a }) r
 tx_done d place at a r sound free reply_is installed =
     let call : Call = record { at = at; act = act.TxLook a } in
     let now : ℕ = max d.table.now.moment at in
-    let o : Outcome = tx_look d.table.now now a in
-    let e : Serial = after_step d place call r in
-    let none : NoneWaits d.table.now = free_waits d free in
-    let looks : Looks d.table.now o = tx_looks d.table.now now a in
-    let keeps : Keeps d.table.now o = tx_look_keeps d.table.now now a in
-    let fits : IsLookReply r = rw reply_is looks.fits in
-    let was : waiting d.table.now ≡ [] = nothing_waits d.table.now none.keys none.peers in
-    let is_now : waiting o.after ≡ [] = empty_waits d.table.now o none keeps in
-    let told : IsTold (stepped d.table place call) = told_step d.table place call refl sound.told in
-    let stand_is : stand_of (shown_of e).events ≡ looked r = stand_after d place call r sound ∙ rw (free.2, reply_is) refl in
-    step_done d place call r [] sound refl reply_is fits (keeps.taken, refl) (hold_has e r installed fits)
-    (look_owing d.hold d.table.now o.after r free.0 was is_now fits)
-    (few_looked d.hold d.table.now o.after r free.0 was is_now fits)
-    (rw stand_is (look_held e d.hold r free.0 fits (λ v is. let m = installed v is in look_sound d e o v m.0 none looks keeps (sym reply_is ∙ is) refl told (made_now d place call r sound reply_is) m.1)))
-    tt refl
+    let l : LookLeaves d place call r = look_leaves d place call r sound free refl reply_is (tx_looks d.table.now now a) (tx_look_keeps d.table.now now a) installed in
+    let stand_is : stand_of (shown_of (after_step d place call r)).events ≡ looked r = stand_after d place call r sound ∙ rw (free.2, reply_is) refl in
+    step_done d place call r [] sound refl reply_is l.fits (l.taken, refl) l.has l.owing l.few (rw stand_is l.held) tt refl
 
 rx_done : (d : Serial) (place : Place) (at : ℕ) (id : PeerId) (key_id : KeyId) (from : Transport) (r : Reply) → Sound d → IsFree (shown_of d) → r ≡ (step d.table.now (record { at = at; act = act.RxLook id key_id from })).reply → HoldsInstalled (after_step d place (record { at = at; act = act.RxLook id key_id from }) r) r → CallDone d place (record { at = at; act = act.RxLook id key_id from }) r
 rx_done d place at id key_id from r sound free reply_is installed =
     let call : Call = record { at = at; act = act.RxLook id key_id from } in
     let now : ℕ = max d.table.now.moment at in
-    let o : Outcome = rx_look d.table.now now id key_id from in
-    let e : Serial = after_step d place call r in
-    let none : NoneWaits d.table.now = free_waits d free in
-    let looks : Looks d.table.now o = rx_looks d.table.now now id key_id from in
-    let keeps : Keeps d.table.now o = rx_look_keeps d.table.now now id key_id from in
-    let fits : IsLookReply r = rw reply_is looks.fits in
-    let was : waiting d.table.now ≡ [] = nothing_waits d.table.now none.keys none.peers in
-    let is_now : waiting o.after ≡ [] = empty_waits d.table.now o none keeps in
-    let told : IsTold (stepped d.table place call) = told_step d.table place call refl sound.told in
-    let stand_is : stand_of (shown_of e).events ≡ looked r = stand_after d place call r sound ∙ rw (free.2, reply_is) refl in
-    step_done d place call r [] sound refl reply_is fits (keeps.taken, refl) (hold_has e r installed fits)
-    (look_owing d.hold d.table.now o.after r free.0 was is_now fits)
-    (few_looked d.hold d.table.now o.after r free.0 was is_now fits)
-    (rw stand_is (look_held e d.hold r free.0 fits (λ v is. let m = installed v is in look_sound d e o v m.0 none looks keeps (sym reply_is ∙ is) refl told (made_now d place call r sound reply_is) m.1)))
-    tt refl
+    let l : LookLeaves d place call r = look_leaves d place call r sound free refl reply_is (rx_looks d.table.now now id key_id from) (rx_look_keeps d.table.now now id key_id from) installed in
+    let stand_is : stand_of (shown_of (after_step d place call r)).events ≡ looked r = stand_after d place call r sound ∙ rw (free.2, reply_is) refl in
+    step_done d place call r [] sound refl reply_is l.fits (l.taken, refl) l.has l.owing l.few (rw stand_is l.held) tt refl
 
 -- ---- the uses of a hold
 

@@ -1,12 +1,13 @@
 -- One turn of a line at the desk: what happened since it began goes on, and fewer turns are left.
-use Rattle.std.proofs.Common.{ℕ, ◌≡◌, ◌+◌, ◌≤◌, List, [], ◌∷◌, ◌++◌, length, length-append, refl, ◌∙◌, ap, arith, false}
-use Rattle.std.specs.Prelude.{Option, Some, None}
+use Rattle.std.proofs.Common.{ℕ, ◌≡◌, ◌+◌, ◌≤◌, List, [], ◌∷◌, ◌++◌, length, length-append, refl, ◌∙◌, ap, subst, arith, false}
+use Rattle.std.specs.Prelude.{Option, Some, None, ⊤}
 use Rattle.ov_model.specs.declared.place.Place.{Place}
 use Rattle.ov_model.specs.declared.act.Act.TheVariants as act
 use Rattle.ov_model.specs.declared.draw.Drawn.{Drawn}
 use Rattle.ov_model.specs.declared.draw.Drawn.TheVariants as drawn
 use Rattle.ov_model.specs.declared.hold.Owed.{Owed}
 use Rattle.ov_model.specs.declared.reply.HoldView.{HoldView}
+use Rattle.ov_model.specs.declared.reply.Reply.{Reply}
 use Rattle.ov_model.specs.declared.reply.Reply.TheVariants as reply
 use Rattle.ov_model.specs.declared.replay.Verdict.{Verdict}
 use Rattle.ov_model.specs.declared.replay.Verdict.TheVariants as verdict
@@ -20,7 +21,7 @@ use Rattle.ov_model.specs.declared.stand.Stand.TheVariants as stand
 use Rattle.ov_model.specs.Tables.{Material}
 use Rattle.ov_model.specs.Packets.{opened}
 use Rattle.ov_model.specs.Events.{Event, Stepped, Judged, Drew, GaveKey, GavePeer, Step}
-use Rattle.ov_model.specs.Next.{Table, GiveKey, GivePeer, Over as over, request, asks_held, asks_opened, asks_drawn, see, stepped, judged_as}
+use Rattle.ov_model.specs.Next.{Table, GiveKey, GivePeer, Over as over, request, asks_held, asks_opened, asks_drawn, see, judged_as, judged_used}
 use Rattle.ov_path.specs.Walks.{AtJudged, Opens, Trail}
 use Rattle.ov_serial.specs.Desks.{itself}
 use Rattle.ov_serial.specs.Running.{stages_left}
@@ -124,47 +125,33 @@ judged_two material place line h es os a at =
     let one : length at.later ≡ 1 = opens_one place line.at h line.deed at.m at.later at.packet at.opens in
     ap length at.held.events ∙ rw one refl
 
-judged_stays : (h : HoldView) (e : Event) (v : HoldView) → see (stand.Judged h) e ≡ stand.Looked v → ⊥
-judged_stays h (Stepped s) v is = elim s.entry.reply as (λ r. stepped (stand.Judged h) s.entry.call.act r ≡ stand.Looked v → ⊥) [
-  | reply.Made n ↦ λ e. cc
-  | reply.Done ↦ λ e. cc
-  | reply.Peer p ↦ λ e. cc
-  | reply.Removed ns ↦ λ e. cc
-  | reply.Hold x ↦ λ e. cc
-  | reply.NoPeer ↦ λ e. cc
-  | reply.NoKey ↦ λ e. cc
-  | reply.Settled x ↦ λ e. cc
-  | reply.Killed ↦ λ e. cc
-  | reply.AlreadyGone ↦ λ e. cc
-  | reply.Released n ↦ λ e. cc
-  | reply.KeyReleased n ↦ λ e. cc
-  | reply.Refused x ↦ λ e. cc
-] is
-judged_stays h (Judged j) v is = cc
-judged_stays h (Drew key d) v is = cc
-judged_stays h (GaveKey key g) v is = cc
-judged_stays h (GavePeer peer g) v is = cc
+-- A judged line neither draws nor looks up again.
+abbrev IsPastDraw : Stand → Type 0
+IsPastDraw (stand.Looked h) = ⊥
+IsPastDraw (stand.Drew h r) = ⊥
+IsPastDraw _ = ⊤
 
-judged_draws : (h : HoldView) (e : Event) (v : HoldView) (d : Drawn) → see (stand.Judged h) e ≡ stand.Drew v d → ⊥
-judged_draws h (Stepped s) v d is = elim s.entry.reply as (λ r. stepped (stand.Judged h) s.entry.call.act r ≡ stand.Drew v d → ⊥) [
-  | reply.Made n ↦ λ e. cc
-  | reply.Done ↦ λ e. cc
-  | reply.Peer p ↦ λ e. cc
-  | reply.Removed ns ↦ λ e. cc
-  | reply.Hold x ↦ λ e. cc
-  | reply.NoPeer ↦ λ e. cc
-  | reply.NoKey ↦ λ e. cc
-  | reply.Settled x ↦ λ e. cc
-  | reply.Killed ↦ λ e. cc
-  | reply.AlreadyGone ↦ λ e. cc
-  | reply.Released n ↦ λ e. cc
-  | reply.KeyReleased n ↦ λ e. cc
-  | reply.Refused x ↦ λ e. cc
-] is
-judged_draws h (Judged j) v d is = cc
-judged_draws h (Drew key r) v d is = cc
-judged_draws h (GaveKey key g) v d is = cc
-judged_draws h (GavePeer peer g) v d is = cc
+judged_reply : (h : HoldView) (r : Reply) → IsPastDraw (judged_used h r)
+judged_reply h (reply.Made n) = tt
+judged_reply h reply.Done = tt
+judged_reply h (reply.Peer p) = tt
+judged_reply h (reply.Removed ns) = tt
+judged_reply h (reply.Hold x) = tt
+judged_reply h reply.NoPeer = tt
+judged_reply h reply.NoKey = tt
+judged_reply h (reply.Settled x) = tt
+judged_reply h reply.Killed = tt
+judged_reply h reply.AlreadyGone = tt
+judged_reply h (reply.Released n) = tt
+judged_reply h (reply.KeyReleased n) = tt
+judged_reply h (reply.Refused x) = tt
+
+judged_stays : (h : HoldView) (e : Event) → IsPastDraw (see (stand.Judged h) e)
+judged_stays h (Stepped s) = judged_reply h s.entry.reply
+judged_stays h (Judged j) = tt
+judged_stays h (Drew key r) = tt
+judged_stays h (GaveKey key g) = tt
+judged_stays h (GavePeer peer g) = tt
 
 pub judged_later : (material old : ℕ → Option Material) (place : Place) (line : Line) (h : HoldView) (es : List Event) (e : Event) (os ps : List Owed) (a b : Option Answer) (t : Stand) → AtJudged old itself place line h es ps b → see (stand.Judged h) e ≡ t → Trail material itself place line t (es ++ e ∷ []) os a → stages_left t + 1 ≤ 3
 judged_later material old place line h es e os ps a b (stand.Judged v) was is trail =
@@ -175,8 +162,8 @@ judged_later material old place line h es e os ps a b (stand.Judged v) was is tr
 judged_later material old place line h es e os ps a b stand.Fresh was is trail = absurd (never_empty es e trail.none)
 judged_later material old place line h es e os ps a b stand.Replied was is trail = omega arith
 judged_later material old place line h es e os ps a b stand.Missed was is trail = omega arith
-judged_later material old place line h es e os ps a b (stand.Looked v) was is trail = absurd (judged_stays h e v is)
-judged_later material old place line h es e os ps a b (stand.Drew v d) was is trail = absurd (judged_draws h e v d is)
+judged_later material old place line h es e os ps a b (stand.Looked v) was is trail = absurd (subst IsPastDraw is (judged_stays h e))
+judged_later material old place line h es e os ps a b (stand.Drew v r) was is trail = absurd (subst IsPastDraw is (judged_stays h e))
 judged_later material old place line h es e os ps a b (stand.Used v u) was is trail = omega arith
 judged_later material old place line h es e os ps a b (stand.KeyGiven v u) was is trail = omega arith
 judged_later material old place line h es e os ps a b (stand.PeerGiven v u) was is trail = omega arith

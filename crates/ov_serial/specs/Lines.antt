@@ -1,10 +1,11 @@
 -- What a line has made of the desk since it began, and how the desk stands between two lines.
-use Rattle.std.specs.Prelude.{ℕ, ◌+◌, ◌%◌, ◌≡◌, ◌≤◌, ◌<◌, List, [], ◌∷◌, ◌++◌, map, true, slice_get, Some}
+use Rattle.std.specs.Prelude.{ℕ, ◌+◌, ◌%◌, ◌≡◌, ◌≤◌, ◌<◌, List, [], ◌∷◌, ◌++◌, map, length, true, slice_get, Some}
 use Rattle.std.specs.List.{AllByRecursion, list_any}
 use Rattle.ov_model.specs.declared.entry.Entry.{Entry}
 use Rattle.ov_model.specs.declared.line.Line.{Line}
 use Rattle.ov_model.specs.declared.answer.Answer.{Answer}
 use Rattle.ov_model.specs.declared.replay.ReplayEntry.{ReplayEntry}
+use Rattle.ov_model.specs.declared.report.LaneLog.{LaneLog}
 use Rattle.ov_model.specs.Events.{Event, Step, Judgement, steps_after, steps_of, steps_in, judgements_in, draws_in, judgement_of}
 use Rattle.ov_model.specs.Runs.{table_after}
 use Rattle.ov_model.specs.Keys.{key_of, spends, ids_under, ids_of}
@@ -71,6 +72,14 @@ pub record Rested (d : Serial) (lines : List Line) (answers : List Answer) : Typ
   pub judged_within : AllByRecursion (AllByRecursion (λ r. r.place.lane < 1)) (histories d.shards)
   pub rise : AllByRecursion (LinesRise 0) (histories d.shards)
   pub counts : (key : ℕ) → CountsAll d answers key
+
+-- A lane's log with these lines in their order, each with its answer; none came from a link, and no link
+-- refused a part.
+pub record IsWhole (lines : List Line) (log : LaneLog) : Type 0 where
+  pub lines_are : log.lines ≡ lines
+  pub answered : length log.answers ≡ length lines
+  pub recorded : log.recorded ≡ 0
+  pub unsent : log.unsent ≡ []
 
 -- Each shard's steps are those that the replay rule judges so.
 abbrev pub AllJudge : List (List ReplayEntry) → Type 0

@@ -7,6 +7,7 @@ mod holding;
 mod lines;
 mod past;
 mod session;
+#[cfg(test)]
+mod tests;
 
-pub use desk::SerialDesk;
 pub use session::run_script;

@@ -42,6 +42,16 @@ pub snoc_same : {I : Type 0} (l : List I) (a b : I) → l ++ a ∷ [] ≡ l ++ b
 snoc_same [] a b e = cc e
 snoc_same (x ∷ xs) a b e = snoc_same xs a b (cc e)
 
+-- Two lists of views that count for the same in all that the rule adds up.
+record CountSame {I : Type 0} (us vs : List (Place I)) : Type 0 where
+  shares : total share us ≡ total share vs
+  tickets : (t : ℕ) → total (has_ticket t) us ≡ total (has_ticket t) vs
+  waiting : total waits us ≡ total waits vs
+  within : total is_inside us ≡ total is_inside vs
+  owned : (p : ℕ) → total (owns p) us ≡ total (owns p) vs
+  held : (c : ℕ) → total (holds c) us ≡ total (holds c) vs
+  owed : (c : ℕ) → total (owes c) us ≡ total (owes c) vs
+
 module _ {S I : Type 0} (history : S → List I) (live dying : S → List ℕ) (count : ℕ) where
   abbrev M : Type 0
   M = Me S (Place I)
@@ -366,40 +376,46 @@ module _ {S I : Type 0} (history : S → List I) (live dying : S → List ℕ) (
         refl,
       )
 
+  -- Other views that count for the same keep the rule: no word, slot, history or list changes.
+  count_on : (s : State S (Place I)) (r : T s) (us : List (Place I)) → CountSame us s.views → ((id : ℕ) (v : Place I) → get_elem? us id ≡ some v → Fits count r.served r.log r.lists v) → T record { words = s.words; homes = s.homes; views = us }
+  count_on s r us same each = record {
+    served = r.served;
+    drawn = r.drawn;
+    log = r.log;
+    lists = r.lists;
+    wide = r.wide;
+    slots = r.slots;
+    tickets = r.tickets;
+    serving = r.serving;
+    long = r.long;
+    shares = same.shares ∙ r.shares;
+    out = λ t. same.tickets t ∙ r.out t;
+    line = ap (λ k. k + r.served) same.waiting ∙ r.line;
+    home = λ none. r.home (sym same.within ∙ none);
+    once = λ p. same.owned p ∙ r.once p;
+    each = each;
+    cells = cells_stay count r.lists s.words s.words (λ c. total (holds c) s.views) (λ c. total (holds c) us) (λ c. total (owes c) s.views) (λ c. total (owes c) us) r.cells (λ c. refl) same.held same.owed;
+  }
+
   -- The seat has seen the longer of what two had seen.
   saw : (s : State S (Place I)) (r : T s) (id : ℕ) (v : Place I) → get_elem? s.views id ≡ some v → v.inside ≡ false → (l : List I) → IsPrefix l r.log → T record { words = s.words; homes = s.homes; views = set s.views id record v { seen = l; also = [] } }
   saw s r id v at not_inside l pre =
       let w : Place I = record v { seen = l; also = [] } in
       let fits = r.each id v at in
+      let same : (f : Place I → ℕ) → f w ≡ f v → total f (set s.views id w) ≡ total f s.views = λ f is. total_same f s.views id v w at is in
+      count_on s r (set s.views id w)
+      record { shares = same share refl; tickets = λ t. same (has_ticket t) refl; waiting = same waits refl; within = same is_inside refl; owned = λ p. same (owns p) refl; held = λ c. same (holds c) refl; owed = λ c. same (owes c) refl }
+      (each_set (Fits count r.served r.log r.lists) s.views id w
       record {
-        served = r.served;
-        drawn = r.drawn;
-        log = r.log;
-        lists = r.lists;
-        wide = r.wide;
-        slots = r.slots;
-        tickets = r.tickets;
-        serving = r.serving;
-        long = r.long;
-        shares = total_same share s.views id v w at refl ∙ r.shares;
-        out = λ t. total_same (has_ticket t) s.views id v w at refl ∙ r.out t;
-        line = ap (λ k. k + r.served) (total_same waits s.views id v w at refl) ∙ r.line;
-        home = λ none. r.home (sym (total_same is_inside s.views id v w at refl) ∙ none);
-        once = λ p. total_same (owns p) s.views id v w at refl ∙ r.once p;
-        each = each_set (Fits count r.served r.log r.lists) s.views id w
-            record {
-              idle = fits.idle;
-              sized = fits.sized;
-              seen = pre;
-              also = (r.log, refl);
-              inside = λ is. absurd (true≢false (sym is ∙ not_inside));
-              once = fits.once;
-              entries = fits.entries;
-            }
-            r.each;
-        cells = cells_stay count r.lists s.words s.words (λ c. total (holds c) s.views) (λ c. total (holds c) (set s.views id w)) (λ c. total (owes c) s.views) (λ c. total (owes c) (set s.views id w)) r.cells
-            (λ c. refl) (λ c. total_same (holds c) s.views id v w at refl) (λ c. total_same (owes c) s.views id v w at refl);
+        idle = fits.idle;
+        sized = fits.sized;
+        seen = pre;
+        also = (r.log, refl);
+        inside = λ is. absurd (true≢false (sym is ∙ not_inside));
+        once = fits.once;
+        entries = fits.entries;
       }
+      r.each)
 
   pub meet_step : (slots id : ℕ) (me : M) → me.0.inside ≡ false → Allows T slots id me 2 (λ n. n) (meets (step slots 2 0 0 none) me)
   meet_step slots id me not_inside s r _ at _ =
@@ -430,45 +446,30 @@ module _ {S I : Type 0} (history : S → List I) (live dying : S → List ℕ) (
       let fits = r.each id v at in
       let vs : List (Place I) = set s.views id w in
       let both : (f : Place I → ℕ) → f w ≡ f v → f u ≡ 0 → total f (vs ++ u ∷ []) ≡ total f s.views = λ f same none. let a = total_snoc f vs u in let b = total_same f s.views id v w at same in omega arith in
+      let shares_are : total share (vs ++ u ∷ []) ≡ total share s.views = let a = total_snoc share vs u in let b = total_set share s.views id v w at in omega arith in
+      count_on s r (vs ++ u ∷ [])
+      record { shares = shares_are; tickets = λ t. both (has_ticket t) refl refl; waiting = both waits refl refl; within = both is_inside refl refl; owned = λ p. both (owns p) refl refl; held = λ c. both (holds c) refl refl; owed = λ c. both (owes c) refl refl }
+      (each_snoc (Fits count r.served r.log r.lists) vs u
       record {
-        served = r.served;
-        drawn = r.drawn;
-        log = r.log;
-        lists = r.lists;
-        wide = r.wide;
-        slots = r.slots;
-        tickets = r.tickets;
-        serving = r.serving;
-        long = r.long;
-        shares = let a = total_snoc share vs u in let b = total_set share s.views id v w at in omega (arith, r.shares);
-        out = λ t. both (has_ticket t) refl refl ∙ r.out t;
-        line = ap (λ k. k + r.served) (both waits refl refl) ∙ r.line;
-        home = λ none. r.home (sym (both is_inside refl refl) ∙ none);
-        once = λ p. both (owns p) refl refl ∙ r.once p;
-        each = each_snoc (Fits count r.served r.log r.lists) vs u
-            record {
-              idle = λ z. absurd (omega arith);
-              sized = λ _. fits.sized (omega arith);
-              seen = fits.seen;
-              also = (r.log, refl);
-              inside = λ is. absurd (true≢false (sym is));
-              once = λ c. omega arith;
-              entries = tt;
-            }
-            (each_set (Fits count r.served r.log r.lists) s.views id w
-            record {
-              idle = λ z. absurd (omega arith);
-              sized = λ _. fits.sized (omega arith);
-              seen = fits.seen;
-              also = fits.also;
-              inside = fits.inside;
-              once = fits.once;
-              entries = fits.entries;
-            }
-            r.each);
-        cells = cells_stay count r.lists s.words s.words (λ c. total (holds c) s.views) (λ c. total (holds c) (vs ++ u ∷ [])) (λ c. total (owes c) s.views) (λ c. total (owes c) (vs ++ u ∷ [])) r.cells
-            (λ c. refl) (λ c. both (holds c) refl refl) (λ c. both (owes c) refl refl);
+        idle = λ z. absurd (omega arith);
+        sized = λ _. fits.sized (omega arith);
+        seen = fits.seen;
+        also = (r.log, refl);
+        inside = λ is. absurd (true≢false (sym is));
+        once = λ c. omega arith;
+        entries = tt;
       }
+      (each_set (Fits count r.served r.log r.lists) s.views id w
+      record {
+        idle = λ z. absurd (omega arith);
+        sized = λ _. fits.sized (omega arith);
+        seen = fits.seen;
+        also = fits.also;
+        inside = fits.inside;
+        once = fits.once;
+        entries = fits.entries;
+      }
+      r.each))
 
   -- Another seat is taken in.
   pub join_step : (id : ℕ) (v : Place I) (other : ℕ) (w : Place I) → v.queued ≡ false → v.inside ≡ false → 0 < v.share → w.queued ≡ false → w.inside ≡ false → ((c : ℕ) → count_of c v.holds + count_of c w.holds ≤ 1)
@@ -480,47 +481,37 @@ module _ {S I : Type 0} (history : S → List I) (live dying : S → List ℕ) (
       let mine = r.each id v at in
       let theirs = r.each other w there in
       let taken : (f : Place I → ℕ) → f b ≡ f v + f w → f no_part ≡ 0 → total f (set vs other no_part) ≡ total f s.views = λ f sum none. let x = total_set f s.views id v b at in let y = total_set f vs other w no_part at_other in omega arith in
+      count_on s r (set vs other no_part)
       record {
-        served = r.served;
-        drawn = r.drawn;
-        log = r.log;
-        lists = r.lists;
-        wide = r.wide;
-        slots = r.slots;
-        tickets = r.tickets;
-        serving = r.serving;
-        long = r.long;
-        shares = taken share refl refl ∙ r.shares;
-        out = λ t. taken (has_ticket t) (let x = ticket_no t v v_out in let y = ticket_no t w w_out in let z = ticket_no t b v_out in omega arith) refl ∙ r.out t;
-        line = ap (λ k. k + r.served) (taken waits (let x = waits_no v v_out in let y = waits_no w w_out in let z = waits_no b v_out in omega arith) refl) ∙ r.line;
-        home = λ none. r.home (sym (taken is_inside (let x = inside_no v v_not in let y = inside_no w w_not in let z = inside_no b v_not in omega arith) refl) ∙ none);
-        once = λ p. taken (owns p) (total_append (λ (e : ℕ × I). if e.0 == p then 1 else 0) v.own w.own) refl ∙ r.once p;
-        each = each_set (Fits count r.served r.log r.lists) vs other no_part
-            record {
-              idle = λ _. (refl, refl, refl, refl);
-              sized = λ h. absurd (omega arith);
-              seen = (r.log, refl);
-              also = (r.log, refl);
-              inside = λ is. absurd (true≢false (sym is));
-              once = λ c. omega arith;
-              entries = tt;
-            }
-            (each_set (Fits count r.served r.log r.lists) s.views id b
-            record {
-              idle = λ z. absurd (omega arith);
-              sized = λ _. mine.sized part;
-              seen = mine.seen;
-              also = theirs.seen;
-              inside = λ is. absurd (true≢false (sym is ∙ v_not));
-              once = λ c. let x = total_append (λ k. if k == c then 1 else 0) v.holds w.holds in let y = apart c in omega arith;
-              entries = are_append r.log v.own w.own mine.entries theirs.entries;
-            }
-            r.each);
-        cells = cells_stay count r.lists s.words s.words (λ c. total (holds c) s.views) (λ c. total (holds c) (set vs other no_part)) (λ c. total (owes c) s.views) (λ c. total (owes c) (set vs other no_part)) r.cells
-            (λ c. refl)
-            (λ c. taken (holds c) (total_append (λ k. if k == c then 1 else 0) v.holds w.holds) refl)
-            (λ c. taken (owes c) (total_append (λ k. if k == c then 1 else 0) v.owes w.owes) refl);
+        shares = taken share refl refl;
+        tickets = λ t. taken (has_ticket t) (let x = ticket_no t v v_out in let y = ticket_no t w w_out in let z = ticket_no t b v_out in omega arith) refl;
+        waiting = taken waits (let x = waits_no v v_out in let y = waits_no w w_out in let z = waits_no b v_out in omega arith) refl;
+        within = taken is_inside (let x = inside_no v v_not in let y = inside_no w w_not in let z = inside_no b v_not in omega arith) refl;
+        owned = λ p. taken (owns p) (total_append (λ (e : ℕ × I). if e.0 == p then 1 else 0) v.own w.own) refl;
+        held = λ c. taken (holds c) (total_append (λ k. if k == c then 1 else 0) v.holds w.holds) refl;
+        owed = λ c. taken (owes c) (total_append (λ k. if k == c then 1 else 0) v.owes w.owes) refl;
       }
+      (each_set (Fits count r.served r.log r.lists) vs other no_part
+      record {
+        idle = λ _. (refl, refl, refl, refl);
+        sized = λ h. absurd (omega arith);
+        seen = (r.log, refl);
+        also = (r.log, refl);
+        inside = λ is. absurd (true≢false (sym is));
+        once = λ c. omega arith;
+        entries = tt;
+      }
+      (each_set (Fits count r.served r.log r.lists) s.views id b
+      record {
+        idle = λ z. absurd (omega arith);
+        sized = λ _. mine.sized part;
+        seen = mine.seen;
+        also = theirs.seen;
+        inside = λ is. absurd (true≢false (sym is ∙ v_not));
+        once = λ c. let x = total_append (λ k. if k == c then 1 else 0) v.holds w.holds in let y = apart c in omega arith;
+        entries = are_append r.log v.own w.own mine.entries theirs.entries;
+      }
+      r.each))
 
   -- At the beginning.
   pub opens : (y : S) → history y ≡ [] → live y ≡ [] → dying y ≡ [] → T (opening (replicate (3 + count) 0) (y ∷ []) (whole count))

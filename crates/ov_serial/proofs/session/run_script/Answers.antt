@@ -1,15 +1,16 @@
 -- All lines were run on lane 0, and the report has what they did.
-use Rattle.std.proofs.Common.{◌≡◌, ◌∙◌, List, ◌∷◌, ◌++◌, [], subst, ap}
+use Rattle.std.proofs.Common.{◌≡◌, ◌∙◌, List, ◌∷◌, ◌++◌, [], length, refl, subst, ap}
+use Rattle.std.specs.List.{AllByRecursion}
 use Rattle.ov_model.specs.declared.line.Line.{Line}
 use Rattle.ov_model.specs.declared.answer.Answer.{Answer}
 use Rattle.ov_model.specs.declared.report.Report.{Report}
 use Rattle.ov_model.specs.declared.report.LaneLog.{LaneLog}
 use Rattle.ov_model.specs.declared.report.Unsent.{Unsent}
-use Rattle.ov_model.specs.Keys.{IdsCount}
-use Rattle.ov_model.specs.Legal.{ShardsJudge}
+use Rattle.ov_model.specs.Keys.{key_of, IdsCount}
+use Rattle.ov_model.specs.Legal.{LinesFollowPath, ShardsJudge}
 use Rattle.ov_serial.specs.Desks.{Serial, Sound, histories}
-use Rattle.ov_serial.specs.Lines.{Rested, AllJudge}
-use Rattle.ov_serial.proofs.Reporting.{report_of, report_is, none_waits, legal_as, noted, shards_judge, ids_count}
+use Rattle.ov_serial.specs.Lines.{Rested, AllJudge, IsWhole}
+use Rattle.ov_serial.proofs.Reporting.{report_of, report_is, none_waits, lines_follow, legal_as, noted, shards_judge, ids_count}
 use Rattle.ov_serial.proofs.session.run_script.Goals as goal
 
 abbrev desk : (c : goal.After-of_vec-2) → Serial
@@ -54,8 +55,16 @@ returns-clause-shards c = subst ShardsJudge (is c) (shards_judge (desk c) (lines
 pub returns-clause-ids : goal.returns-clause-ids
 returns-clause-ids c = subst (λ first. IdsCount first (report c)) (first_is c) (subst (λ (r : Report). IdsCount (desk c).first r) (is c) (ids_count (desk c) (lines c) (answers c) (rested c) (sound c)))
 
+all : (c : goal.After-of_vec-2) → length (answers c) ≡ length (lines c)
+all c = rw c.as_slice.ensures at c.in_ok-run_lines.ensures.all
+
+pub returns-clause-whole : goal.returns-clause-whole
+returns-clause-whole c = subst (λ (r : Report). AllByRecursion (IsWhole (lines c)) r.lanes) (is c) (record { lines_are = refl; answered = all c; recorded = refl; unsent = refl }, tt)
+
+pub returns-clause-follow : goal.returns-clause-follow
+returns-clause-follow c = subst (λ (r : Report). LinesFollowPath (key_of r.journal) (λ a. a) r) (is c) (lines_follow (desk c) (lines c) (answers c) (rested c))
+
 pub returns-clause-legal : goal.returns-clause-legal
 returns-clause-legal c =
     legal_as (desk c) (lines c) (answers c) c.args.first (report c) (is c) (first_is c) (rested c) (sound c)
-    (none_waits (desk c) c.in_ok-run_lines.ensures.free c.in_ok-run_lines.ensures.owes) (judge c)
-    (rw c.as_slice.ensures at c.in_ok-run_lines.ensures.all)
+    (none_waits (desk c) c.in_ok-run_lines.ensures.free c.in_ok-run_lines.ensures.owes) (judge c) (all c)

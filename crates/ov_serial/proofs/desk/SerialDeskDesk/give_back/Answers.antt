@@ -5,7 +5,7 @@ use Rattle.ov_model.specs.declared.hold.Given.TheVariants as given
 use Rattle.ov_model.specs.Events.{GavePeer}
 use Rattle.ov_path.specs.Desks.{Shown, NoHold, LeftPeer}
 use Rattle.ov_serial.specs.Desks.{Serial, Sound, shown_of, after_peer}
-use Rattle.ov_serial.proofs.Marking.{MarkDone, same_desk, one_less}
+use Rattle.ov_serial.proofs.Marking.{MarkDone, marked_as, same_desk, one_less}
 use Rattle.ov_serial.proofs.Giving.{peer_done}
 use Rattle.ov_serial.proofs.desk.SerialDeskDesk.give_back.Goals as goal
 
@@ -13,16 +13,7 @@ abbrev was : (c : goal.After-push) → Serial
 was c = the_view c.self.inside
 
 abbrev now : (c : goal.After-push) → Serial
-now c = record {
-  table = (was c).table;
-  shards = (was c).shards;
-  first = (was c).first;
-  next = (was c).next;
-  marks = c.push.new.self.marks;
-  room = c.push.new.self.room;
-  start = (was c).start;
-  hold = NoHold;
-}
+now c = marked_as (was c) c.push.new.self NoHold
 
 sound_was : (c : goal.After-push) → Sound (was c)
 sound_was c = c.self.invariant

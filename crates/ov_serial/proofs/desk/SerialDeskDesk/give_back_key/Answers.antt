@@ -8,7 +8,7 @@ use Rattle.ov_model.specs.Events.{GaveKey}
 use Rattle.ov_path.specs.Desks.{Shown, HoldsKey, owed_if, peer_left}
 use Rattle.ov_table.specs.Recorded.{first_waiting}
 use Rattle.ov_serial.specs.Desks.{Serial, Sound, shown_of, holding, given_where, after_key}
-use Rattle.ov_serial.proofs.Marking.{MarkDone, same_desk, one_less}
+use Rattle.ov_serial.proofs.Marking.{MarkDone, marked_as, same_desk, one_less}
 use Rattle.ov_serial.proofs.Giving.{key_done}
 use Rattle.ov_serial.proofs.desk.SerialDeskDesk.give_back_key.Goals as goal
 
@@ -16,16 +16,7 @@ abbrev was : (c : goal.After-push) → Serial
 was c = the_view c.self.inside
 
 abbrev now : (c : goal.After-push) → Serial
-now c = record {
-  table = (was c).table;
-  shards = (was c).shards;
-  first = (was c).first;
-  next = (was c).next;
-  marks = c.push.new.self.marks;
-  room = c.push.new.self.room;
-  start = (was c).start;
-  hold = holding c.without_key-self-inside.result;
-}
+now c = marked_as (was c) c.push.new.self (holding c.without_key-self-inside.result)
 
 sound_was : (c : goal.After-push) → Sound (was c)
 sound_was c = c.self.invariant
