@@ -2,14 +2,13 @@
 use Rattle.std.proofs.Common.{rules, ◌≡◌, Bool, false, Option, None, Some, Result, Ok, Err, subst, sym}
 use Rattle.std.specs.Option.{is_some}
 use Rattle.std.specs.Prelude.{IsErr, IsErrAnd, IfErr, MatchOption}
-use Rattle.ov_json.specs.declared.line.LineStop.{LineStop}
 
 -- Two values under `Some` are one where the options are.
 pub some_same : {A : Type 0} → (a b : A) → Some a ≡ Some b → a ≡ b
 some_same a b h = search (rules, h)
 
 -- What holds of a cause holds of the answer that hands it on.
-pub handed_on : {T : Type 0} → (r : Result T LineStop) (stop : LineStop) (P : LineStop → Type 0) → IsErr r × IsErrAnd r (λ s. s ≡ stop) → P stop → IfErr r P
+pub handed_on : {T E : Type 0} → (r : Result T E) (stop : E) (P : E → Type 0) → IsErr r × IsErrAnd r (λ s. s ≡ stop) → P stop → IfErr r P
 handed_on (Ok x) stop P h p = tt
 handed_on (Err s) stop P h p = subst P (sym h.1) p
 

@@ -244,3 +244,14 @@ fn a_failed_read_stops_a_script_behind_its_bad_line(rt: HostRuntime) -> Result<(
     }
     Ok(())
 }
+
+#[test]
+fn nothing_is_read_behind_a_bad_line(rt: HostRuntime) -> Result<(), Fail> {
+    // The first piece has 16 bytes, and a bad line among them.
+    let text = b"{}\n{\"at\":1,\"do\":\"peer-get\",\"lane\":0,\"peer\":{\"id\":5}}\n";
+    let mut source = SteadySource::new(Octets::of(rt.alloc(), text)?, 16);
+    let reading = read_script(rt.alloc(), &mut source, 1);
+    assert!(rt; reading.outcome == Err(ReadStop::Bad(1)));
+    assert_eq!(rt; source.left().len(), text.len() - 16);
+    Ok(())
+}

@@ -25,7 +25,7 @@ use Rattle.ov_model.specs.Step.{Outcome, replied, refused, peer_of, peer_new, pe
 use Rattle.ov_model.specs.Runs.{Follows, IsRun, table_after}
 use Rattle.ov_model.specs.Events.{steps_after, steps_of}
 use Rattle.ov_model.specs.Removals.{times, keys_taken_in}
-pub use Rattle.ov_model.specs.Lifetime.{key_made_by}
+use Rattle.ov_model.specs.Lifetime.{key_made_by}
 use Rattle.ov_model.proofs.Shapes.{settle_kept}
 use Rattle.ov_model.proofs.Times.{times-append, times_first}
 

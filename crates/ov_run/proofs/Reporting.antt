@@ -1,15 +1,17 @@
 -- What is known of a run's report, and of the lines that were counted.
-use Rattle.std.proofs.Common.{ℕ, ◌≡◌, ◌<◌, List, [], ◌∷◌, length, refl, ◌∙◌, arith}
+use Rattle.std.proofs.Common.{ℕ, ◌≡◌, ◌<◌, List, [], ◌∷◌, length, refl, sym, ap, ◌∙◌, arith}
 use Rattle.std.specs.Prelude.{Option, Some, None, Err, IfSome}
 use Rattle.std.specs.List.{AllByRecursion}
 use Rattle.ov_model.specs.declared.line.Line.{Line}
 use Rattle.ov_model.specs.declared.line.Script.{Script}
 use Rattle.ov_model.specs.declared.report.Report.{Report}
-use Rattle.ov_model.specs.Keys.{IdsCount}
-use Rattle.ov_model.specs.Legal.{Legal, JournalRuns, RemovalsAreNoted, ShardsJudge}
+use Rattle.ov_model.specs.declared.report.LaneLog.{LaneLog}
+use Rattle.ov_model.specs.Keys.{IdsCount, key_of}
+use Rattle.ov_model.specs.Legal.{Legal, JournalRuns, LinesFollowPath, RemovalsAreNoted, ShardsJudge}
 use Rattle.ov_model.specs.Removals.{AllReleased}
 use Rattle.ov_json.specs.Reading.{AreLines, Gave, IsScript, HasNoStop, Counts, whole_lines}
-use Rattle.ov_run.specs.Clauses.{Reported, EndsBy, Counted, CountedRun, cause_of_stop}
+use Rattle.ov_serial.specs.Lines.{IsWhole}
+use Rattle.ov_run.specs.Clauses.{Answered, Reported, EndsBy, Counted, CountedRun, cause_of_stop}
 use Rattle.ov_json.specs.declared.script.ReadStop.{ReadStop}
 use Rattle.ov_json.specs.declared.script.ReadStop.TheVariants as stop
 use Rattle.ov_run.specs.declared.ended.Cause.{Cause}
@@ -22,18 +24,28 @@ read_within [] (line ∷ lines) are = absurd are
 read_within (piece ∷ pieces) [] are = absurd are
 read_within (piece ∷ pieces) (line ∷ lines) are = (are.0.is_line.below, read_within pieces lines are.1)
 
+-- A lane with the script's lines, each answered, has an answer for each of its lines.
+all_answered : (lines : List Line) (lanes : List LaneLog) → AllByRecursion (IsWhole lines) lanes → AllByRecursion Answered lanes
+all_answered lines [] whole = tt
+all_answered lines (log ∷ logs) whole = (
+  record { answered = whole.0.answered ∙ sym (ap length whole.0.lines_are); recorded = whole.0.recorded; unsent = whole.0.unsent },
+  all_answered lines logs whole.1,
+)
+
 -- What is known of a report, as one fact: it is legal where the bytes that were read are its script's.
 pub reported : (before now : Option (List ℕ)) (report : Option Report) (script : Script) → IfSome report JournalRuns → IfSome report RemovalsAreNoted → IfSome report (λ r. AllReleased r.journal) → IfSome report ShardsJudge → IfSome report (IdsCount 1)
-    → IfSome report (λ r. length r.lanes ≡ 1) → IfSome report (λ r. AllByRecursion (λ line. line.lane < 1) script.lines → Legal script 1 r)
+    → IfSome report (λ r. length r.lanes ≡ 1) → IfSome report (λ r. AllByRecursion (IsWhole script.lines) r.lanes) → IfSome report (λ r. LinesFollowPath (key_of r.journal) (λ a. a) r) → IfSome report (λ r. AllByRecursion (λ line. line.lane < 1) script.lines → Legal script 1 r)
     → ((taken : List ℕ) → Gave before now taken → (now ≡ Some []) × IsScript taken 1 script) → ((taken : List ℕ) → Gave before now taken → HasNoStop taken 1) → IfSome report (Reported before now)
-reported before now None script runs noted released shards ids one legal read no_stop = tt
-reported before now (Some r) script runs noted released shards ids one legal read no_stop = record {
+reported before now None script runs noted released shards ids one whole follow legal read no_stop = tt
+reported before now (Some r) script runs noted released shards ids one whole follow legal read no_stop = record {
   runs = runs;
   removals = noted;
   released = released;
   shards = shards;
   ids = ids;
   one_lane = one;
+  answered = all_answered script.lines r.lanes whole;
+  follow = follow;
   read = λ taken gave. let its : (now ≡ Some []) × IsScript taken 1 script = read taken gave in
       (its.0, record { no_stop = no_stop taken gave; script = script; is_script = its.1; legal = legal (read_within (whole_lines taken) script.lines its.1.lines) });
 }

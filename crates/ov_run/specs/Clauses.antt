@@ -1,15 +1,17 @@
 -- What the program promises of one run. A clause on the bytes that were read, or on the script that they
 -- are, holds where the source tells what it holds; one on the bytes that were written, where the sink does.
 use Rattle.std.specs.Prelude.{None, ℕ, ◌+◌, ◌≡◌, ◌⊎◌, List, [], ◌∷◌, length, map, codes, Option, Some, String, string_bytes, ⊤}
+use Rattle.std.specs.List.{AllByRecursion}
 use Rattle.std.specs.declared.alloc.Global.{Global}
 use Rattle.std.specs.Io.KnownBytes.{Appends}
 use Rattle.ov_base.specs.Outside.{Rose}
 use Rattle.ov_base.specs.Loops.{AppendsPart}
 use Rattle.ov_model.specs.declared.line.Script.{Script}
 use Rattle.ov_model.specs.declared.report.Report.{Report}
-use Rattle.ov_model.specs.Keys.{IdsCount}
+use Rattle.ov_model.specs.declared.report.LaneLog.{LaneLog}
+use Rattle.ov_model.specs.Keys.{IdsCount, key_of}
 use Rattle.ov_model.specs.Removals.{AllReleased}
-use Rattle.ov_model.specs.Legal.{Legal, JournalRuns, RemovalsAreNoted, ShardsJudge}
+use Rattle.ov_model.specs.Legal.{Legal, JournalRuns, LinesFollowPath, RemovalsAreNoted, ShardsJudge}
 use Rattle.ov_json.specs.Reading.{Gave, IsScript, HasNoStop, Early, Stop, Event, bad_line, passed, whole_lines, ended_lines}
 use Rattle.ov_json.specs.declared.script.ReadStop.{ReadStop}
 use Rattle.ov_json.specs.declared.script.ReadStop.TheVariants as stop
@@ -54,10 +56,18 @@ pub record Read (taken : List ℕ) (report : Report) : Type 0 where
   pub is_script : IsScript taken 1 script
   pub legal : Legal script 1 report
 
+-- A lane's log of a run without links: each line has its answer, none came from a link, and no link refused
+-- a part.
+pub record Answered (log : LaneLog) : Type 0 where
+  pub answered : length log.answers ≡ length log.lines
+  pub recorded : log.recorded ≡ 0
+  pub unsent : log.unsent ≡ []
+
 -- A report: the journal is a run with its notes, each removal has its notes, no removed peer and no key
 -- that was taken out is left, each replay step has the verdict that the earlier ones give it, the packet
--- ids of each key count up from 1, there is one lane, and where the source tells what it holds, it is at
--- its end and the report is legal for the script of what it gave.
+-- ids of each key count up from 1, there is one lane, each of its lines has its answer, by its own steps
+-- and replay steps, and where the source tells what it holds, it is at its end and the report is legal for
+-- the script of what it gave.
 pub record Reported (before now : Option (List ℕ)) (report : Report) : Type 0 where
   pub runs : JournalRuns report
   pub removals : RemovalsAreNoted report
@@ -65,6 +75,8 @@ pub record Reported (before now : Option (List ℕ)) (report : Report) : Type 0 
   pub shards : ShardsJudge report
   pub ids : IdsCount 1 report
   pub one_lane : length report.lanes ≡ 1
+  pub answered : AllByRecursion Answered report.lanes
+  pub follow : LinesFollowPath (key_of report.journal) (λ a. a) report
   pub read : (taken : List ℕ) → Gave before now taken → (now ≡ Some []) × Read taken report
 
 -- Where a report's text was written whole, or a part of it.

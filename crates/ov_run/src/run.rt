@@ -3,10 +3,11 @@
 ghost use Rattle.std.specs.Prelude.{◌≡◌, ◌≢◌, ◌<◌, ◌↔◌, ℕ, List, None, length, IsTrue, IfSome};
 ghost use Rattle.std.specs.List.{AllByRecursion};
 ghost use Rattle.ov_base.specs.Outside.{Rose};
-ghost use Rattle.ov_model.specs.Keys.{IdsCount};
-ghost use Rattle.ov_model.specs.Legal.{Legal, JournalRuns, RemovalsAreNoted, ShardsJudge};
+ghost use Rattle.ov_model.specs.Keys.{IdsCount, key_of};
+ghost use Rattle.ov_model.specs.Legal.{Legal, JournalRuns, LinesFollowPath, RemovalsAreNoted, ShardsJudge};
 ghost use Rattle.ov_model.specs.Removals.{AllReleased};
 ghost use Rattle.ov_model.specs.Sizes.{Fits};
+ghost use Rattle.ov_serial.specs.Lines.{IsWhole};
 ghost use Rattle.ov_json.specs.Reading as reading;
 ghost use Rattle.ov_run.specs.declared.ended.Cause.TheVariants as cause;
 ghost use Rattle.ov_run.specs.Clauses as spec;
@@ -55,6 +56,8 @@ fn trace<K: Sink>(alloc: Global, script: Script, read_lines: u64, sink: &mut K) 
     ensures shards { IfSome result.report ShardsJudge }
     ensures ids { IfSome result.report (IdsCount 1) }
     ensures one_lane { IfSome result.report (λ report. length report.lanes ≡ 1) }
+    ensures whole { IfSome result.report (λ report. AllByRecursion (IsWhole script.lines) report.lanes) }
+    ensures follow { IfSome result.report (λ report. LinesFollowPath (key_of report.journal) (λ a. a) report) }
     ensures legal { IfSome result.report (λ report. AllByRecursion (λ line. line.lane < 1) script.lines → Legal script 1 report) }
 {
     let report = match run_script(alloc, script, FIRST_ID) {

@@ -24,7 +24,8 @@ use Rattle.ov_model.specs.declared.reply.Reply.TheVariants as reply
 use Rattle.ov_model.specs.Tables.{Peer, Key, Table, by_id, by_remote, by_vpn, has_vpn, by_key_id, keys_in, key_if_any, in_slot, key_serials, shares_vpn}
 use Rattle.ov_model.specs.Step.{Outcome, refused, peer_of, peer_new, peer_new_at, peer_new_with, peer_get, peer_get_of, remove_peer, removed_found, removed_at, key_new, key_made, key_new_found, key_new_place, hold_of, key_found, tx_found, tx_look, rx_found, rx_look, sent, sent_at, sent_live, sent_not_live, sent_dying, settle, settle_at, settle_live, settle_not_live, settle_dying, settled_as, command_step, act_step, is_there, has_key}
 use Rattle.ov_model.specs.Path.{removed}
-use Rattle.ov_model.proofs.KeysTaken.{key_made_by, turns}
+use Rattle.ov_model.specs.Lifetime.{key_made_by}
+use Rattle.ov_model.proofs.KeysTaken.{turns}
 use Rattle.ov_path.specs.Desks.{IsLookReply}
 
 -- ---- counters

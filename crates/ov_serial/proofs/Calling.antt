@@ -19,7 +19,7 @@ use Rattle.ov_model.specs.Step.{step, may_act, is_there, has_key}
 use Rattle.ov_model.specs.Events.{Event, Stepped}
 use Rattle.ov_model.specs.Next.{see, see_all, stand_of}
 use Rattle.ov_model.proofs.Removing.{serials}
-use Rattle.ov_model.proofs.KeysTaken.{key_made_by}
+use Rattle.ov_model.specs.Lifetime.{key_made_by}
 use Rattle.ov_path.specs.Desks.{Shown, Holding, NoHold, Both, PeerLeft, IsDrawn, IsJudged, IsSpent, HoldsPeer, HoldsKey, MayCall, Called, Joins as JoinsOwed, IsReplyOf, HasMaterial, Grows, held_after, stepped_as}
 use Rattle.ov_table.specs.Recorded.{stepped, entry_of, is_release}
 use Rattle.ov_table.proofs.Told.{told_step}

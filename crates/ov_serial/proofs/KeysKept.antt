@@ -13,7 +13,8 @@ use Rattle.ov_model.specs.Tables.{Material, Table}
 use Rattle.ov_model.specs.Step.{step, Outcome}
 use Rattle.ov_model.specs.Runs.{Follows, table_after}
 use Rattle.ov_model.specs.Keys.{key_by, key_of, material_of}
-use Rattle.ov_model.proofs.KeysTaken.{key_made_by, turns}
+use Rattle.ov_model.specs.Lifetime.{key_made_by}
+use Rattle.ov_model.proofs.KeysTaken.{turns}
 
 never_fewer : (t : Table) (es : List Entry) → t.keys_made ≤ (table_after t es).keys_made
 never_fewer t [] = omega arith

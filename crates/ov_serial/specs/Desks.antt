@@ -26,7 +26,7 @@ use Rattle.ov_model.specs.Keys.{key_of}
 use Rattle.ov_model.specs.Replay.{judged}
 use Rattle.ov_replay.specs.History.{History}
 use Rattle.ov_model.specs.declared.reply.Reply.{Reply}
-use Rattle.ov_model.proofs.KeysTaken.{key_made_by}
+use Rattle.ov_model.specs.Lifetime.{key_made_by}
 use Rattle.ov_path.specs.Desks.{Shown, Holding, NoHold, Both, PeerLeft, held_after, peer_left}
 use Rattle.ov_table.specs.Recorded.{Recorded, stepped, entry_of, IsTold, first_waiting, no_steps, is_release}
 use Rattle.ov_serial.specs.declared.holding.Hold.{Hold}

@@ -2,7 +2,7 @@
 
 ghost use Rattle.std.specs.Prelude.{◌≡◌, ◌≤◌, ◌<◌, ◌++◌, map, length, vec_len, if◌then◌else◌};
 ghost use Rattle.std.specs.Vec.{vec_capacity};
-ghost use Rattle.ov_model.proofs.KeysTaken.{key_made_by};
+ghost use Rattle.ov_model.specs.Lifetime.{key_made_by};
 ghost use Rattle.ov_serial.specs.Desks.{drawn_of, next_after};
 
 use ov_model::{Act, Command, Drawn, Reply};

@@ -1,7 +1,6 @@
 -- How texts that follow one another pass through a page.
 use Rattle.std.proofs.Common.{ℕ, ◌≡◌, ◌+◌, ◌<◌, ◌≤◌, List, [], ◌∷◌, ◌++◌, length, take, drop, refl, sym, ap, ◌∙◌, subst, append_assoc, take-append-drop, length-append, length-drop, arith}
-use Rattle.std.specs.Prelude.{Option, Result, Ok, Err, IfErr, ⊤}
-use Rattle.std.specs.Result.{IsErr, IsErrAnd}
+use Rattle.std.specs.Prelude.{Option, ⊤}
 use Rattle.std.specs.Io.KnownBytes.{Appends}
 use Rattle.std.proofs.KnownBytes.{Appends-nil, Appends-trans}
 use Rattle.std.proofs.Math.Seq.{take-append_seam, take-append-add}
@@ -89,11 +88,6 @@ part_at_end old mid new text rest a part =
       omega (arith, ap length a.split, length-append a.sent rest, part.1),
       subst (Appends old new) (sym front) (Appends-trans old mid new a.sent (take part.0 rest) a.taken part.2),
     )
-
--- An error that `?` hands on.
-pub handed_on : {A E : Type 0} (r : Result A E) (why : E) (P : E → Type 0) → IsErr r × IsErrAnd r (λ s. s ≡ why) → P why → IfErr r P
-handed_on (Ok x) why P is p = absurd is.1
-handed_on (Err s) why P is p = subst P (sym is.1) p
 
 -- A line isn't empty: it has its end.
 pub line_some : (d : Data) → 0 < length (line_text d)

@@ -1,6 +1,7 @@
 -- A line more, or a line that didn't pass.
 use Rattle.std.proofs.Common.{ℕ, ◌+◌, ◌∙◌, ap, arith}
-use Rattle.ov_text.proofs.Passing.{no_memory, handed_on}
+use Rattle.ov_json.proofs.Options.{handed_on}
+use Rattle.ov_text.proofs.Passing.{no_memory}
 use Rattle.ov_text.proofs.Texts.{passed_more, stopped_at}
 use Rattle.ov_text.proofs.listed.print_list.Goals as goal
 

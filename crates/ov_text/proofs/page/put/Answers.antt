@@ -1,5 +1,6 @@
 -- A line that found no memory, and a page that wasn't written whole.
-use Rattle.ov_text.proofs.Passing.{no_memory, part_sent, handed_on}
+use Rattle.ov_json.proofs.Options.{handed_on}
+use Rattle.ov_text.proofs.Passing.{no_memory, part_sent}
 use Rattle.ov_text.proofs.page.put.Goals as goal
 
 pub returns-in_err-extend_from_slice-clause-stopped : goal.returns-in_err-extend_from_slice-clause-stopped

@@ -1,6 +1,7 @@
 -- The five parts of the text, one after the other, up to the one that didn't pass.
 use Rattle.std.proofs.lemmas.Result.{IfErr-weaker, IfOk-weaker}
-use Rattle.ov_text.proofs.Passing.{stopped_in, stopped_then, passed_then, handed_on}
+use Rattle.ov_json.proofs.Options.{handed_on}
+use Rattle.ov_text.proofs.Passing.{stopped_in, stopped_then, passed_then}
 use Rattle.ov_text.proofs.Texts.{report_parts, answers_are}
 use Rattle.ov_text.proofs.text.print_lines.Goals as goal
 

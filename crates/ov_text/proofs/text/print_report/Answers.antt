@@ -1,5 +1,6 @@
 -- A text that didn't pass, and one whose last page was written in part.
-use Rattle.ov_text.proofs.Passing.{part_of, part_at_end, handed_on}
+use Rattle.ov_json.proofs.Options.{handed_on}
+use Rattle.ov_text.proofs.Passing.{part_of, part_at_end}
 use Rattle.ov_text.proofs.text.print_report.Goals as goal
 
 pub returns-in_err-print_lines-clause-part : goal.returns-in_err-print_lines-clause-part

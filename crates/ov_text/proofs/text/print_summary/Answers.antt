@@ -1,5 +1,6 @@
 -- The summary has no fractions, and its line isn't empty.
-use Rattle.ov_text.proofs.Passing.{no_memory, handed_on, line_some}
+use Rattle.ov_json.proofs.Options.{handed_on}
+use Rattle.ov_text.proofs.Passing.{no_memory, line_some}
 use Rattle.ov_text.proofs.Texts.{summary_no_float}
 use Rattle.ov_text.proofs.text.print_summary.Goals as goal
 

@@ -4,7 +4,7 @@ use Rattle.std.specs.Prelude.{map}
 use Rattle.ov_model.specs.declared.reply.Reply.{Reply}
 use Rattle.ov_model.specs.declared.place.Place.{Place}
 use Rattle.ov_model.specs.declared.act.Call.{Call}
-use Rattle.ov_model.proofs.KeysTaken.{key_made_by}
+use Rattle.ov_model.specs.Lifetime.{key_made_by}
 use Rattle.ov_path.specs.Desks.{MayCall, Called, Grows}
 use Rattle.ov_serial.specs.declared.past.Mark.TheVariants as mark
 use Rattle.ov_serial.specs.contracts.desk.SerialDesk.{the_view}
