@@ -28,7 +28,7 @@ use Rattle.ov_model.specs.Tables.{Material}
 use Rattle.ov_model.specs.Packets.{opened, packet_id_of}
 use Rattle.ov_model.specs.Events.{Event, Stepped, Judged, Drew, GaveKey, GavePeer, steps_in, judgements_in, draws_in, step_of, releases}
 use Rattle.ov_model.specs.Keys.{sealed_ids}
-use Rattle.ov_model.specs.Path.{first, begins, SomeOwed, removed, UseFits, spent_reply, spent_taken, sent_act, settle_act, use_answer, packet_in, Path}
+use Rattle.ov_model.specs.Path.{first, begins, SomeOwed, removed, UseFits, refused_as, spent_reply, spent_taken, sent_act, settle_act, use_answer, packet_in, Path}
 use Rattle.ov_model.specs.Next.{Ask, Nil, next, stand_of, request}
 use Rattle.ov_path.specs.Desks.{Holding, NoHold, Both, PeerLeft, Shown, Grows, owed_if}
 use Rattle.ov_path.specs.Parts.{CanHold}
@@ -52,7 +52,7 @@ tx_events place at h packet (used.Spent killed) = Drew h.key drawn.Spent ∷ Ste
 tx_events place at h packet _ = []
 
 abbrev pub rx_events : (Addr → Addr) → Place → ℕ → HoldView → (packet bytes : List ℕ) → Use → List Event
-rx_events via place at h packet bytes (used.Refused v) = judged_as place at h bytes v ∷ []
+rx_events via place at h packet bytes (used.Refused x) = judged_as place at h bytes (refused_as x) ∷ []
 rx_events via place at h packet bytes (used.Settled s) = judged_as place at h bytes verdict.Accept ∷ Stepped (step_of place at (settle_act via h packet bytes) (reply.Settled s) []) ∷ []
 rx_events via place at h packet bytes _ = []
 

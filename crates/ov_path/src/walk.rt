@@ -8,7 +8,7 @@ ghost use Rattle.ov_model.specs.declared.line.Deed.TheVariants as deed;
 ghost use Rattle.ov_model.specs.declared.act.Act.TheVariants as act;
 ghost use Rattle.ov_model.specs.declared.stand.Stand.TheVariants as stand;
 ghost use Rattle.ov_model.specs.Tables.{Material};
-ghost use Rattle.ov_model.specs.Path.{begins, first, settled_answer, IsLook};
+ghost use Rattle.ov_model.specs.Path.{begins, cause_of, first, settled_answer, IsLook};
 ghost use Rattle.ov_model.specs.Events.{Event};
 ghost use Rattle.ov_model.specs.Next.{next, is_killed, stand_of};
 ghost use Rattle.ov_path.specs.Desks.{NoHold, HoldsKey, IsUnused, first_owed, Grows};
@@ -24,8 +24,8 @@ use crate::seal::seal;
 use ov_base::{Memory, Octets};
 use ov_keys::KeyPair;
 use ov_model::{
-    Act, Answer, Call, Command, Deed, Drawn, DropCause, HoldView, Line, Owed, Place, Reply,
-    SealedOut, Settled, Stand, Use, Verdict,
+    Act, Answer, Call, Command, Deed, Drawn, DropCause, HoldView, Line, Owed, Place, Refusal,
+    Reply, SealedOut, Settled, Stand, Use, Verdict,
 };
 use std::alloc::Global;
 
@@ -296,9 +296,9 @@ impl Walk {
         let id = packet_id(datagram.as_slice());
         let verdict = desk.replay(self.place, hold.key, id, line.at)?;
         match refusal_of(verdict) {
-            Some(cause) => {
-                self.stand = Stand::Used(hold, Use::Refused(verdict));
-                self.answer = Some(Answer::Dropped(cause));
+            Some(refusal) => {
+                self.stand = Stand::Used(hold, Use::Refused(refusal));
+                self.answer = Some(Answer::Dropped(dropped_as(refusal)));
                 Ok(())
             }
             None => {
@@ -439,15 +439,27 @@ fn pair_of<D: Desk>(desk: &mut D, key: u32) -> KeyPair
 }
 
 /// Why a packet id isn't taken, where it isn't.
-fn refusal_of(verdict: Verdict) -> Option<DropCause>
+fn refusal_of(verdict: Verdict) -> Option<Refusal>
     ensures { result ≡ refusal verdict }
 {
     match verdict {
         Verdict::Accept => None,
-        Verdict::Zero => Some(DropCause::Zero),
-        Verdict::Old => Some(DropCause::Old),
-        Verdict::Below => Some(DropCause::Below),
-        Verdict::Again => Some(DropCause::Again),
+        Verdict::Zero => Some(Refusal::Zero),
+        Verdict::Old => Some(Refusal::Old),
+        Verdict::Below => Some(Refusal::Below),
+        Verdict::Again => Some(Refusal::Again),
+    }
+}
+
+/// The cause with which a packet is dropped whose id isn't taken.
+fn dropped_as(refusal: Refusal) -> DropCause
+    ensures { result ≡ cause_of refusal }
+{
+    match refusal {
+        Refusal::Zero => DropCause::Zero,
+        Refusal::Old => DropCause::Old,
+        Refusal::Below => DropCause::Below,
+        Refusal::Again => DropCause::Again,
     }
 }
 

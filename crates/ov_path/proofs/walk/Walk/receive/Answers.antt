@@ -10,8 +10,8 @@ returns-in-None-clause-then g c = (
 )
 
 pub returns-in-Some-refusal_of-clause-then : goal.returns-in-Some-refusal_of-clause-then
-returns-in-Some-refusal_of-clause-then g c = (
-  refused_step {bytes = c.in-Rx.datagram} {packet = c.in-Some.packet} c.pair_of-pair.result c.packet_id-id.result c.in_ok-verdict.verdict c.in-Some-refusal_of.cause (walk_at c.pair_of-pair.ensures.same c.requires.at) c.in-Rx.is (c.replay.ensures.grows _ _ c.pair_of-pair.ensures.has)
+returns-in-Some-refusal_of-clause-then g c = rw c.dropped_as.ensures (
+  refused_step {bytes = c.in-Rx.datagram} {packet = c.in-Some.packet} c.pair_of-pair.result c.packet_id-id.result c.in_ok-verdict.verdict c.in-Some-refusal_of.refusal (walk_at c.pair_of-pair.ensures.same c.requires.at) c.in-Rx.is (c.replay.ensures.grows _ _ c.pair_of-pair.ensures.has)
       (rw (← c.as_slice.ensures) (sym c.in-Some.is ∙ c.in_ok-packet.ensures.ok)) (c.replay.ensures.via ∙ c.pair_of-pair.ensures.via)
       (rw (← c.as_slice-2.ensures) c.packet_id-id.ensures.id) (sym c.refusal_of.ensures ∙ c.in-Some-refusal_of.is) c.in_ok-verdict.ensures.ok,
   tt,
