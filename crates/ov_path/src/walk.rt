@@ -1,10 +1,9 @@
 // The turns of one line: each makes the next event of the line, and the last one answers it.
 
-ghost use Rattle.std.specs.Prelude.{ℕ, ◌≡◌, ◌≤◌, [], None, Some, length, OnOk, OnErr, IfOk, IsSome, Option};
+ghost use Rattle.std.specs.Prelude.{ℕ, ◌≡◌, [], None, Some, OnOk, OnErr, IfOk, IsSome, Option};
 ghost use Rattle.ov_base.specs.declared.address.Addr.{Addr};
 ghost use Rattle.ov_model.specs.declared.draw.Drawn.TheVariants as drawn;
 ghost use Rattle.ov_model.specs.declared.line.Line.{Line};
-ghost use Rattle.ov_model.specs.declared.line.Deed.TheVariants as deed;
 ghost use Rattle.ov_model.specs.declared.act.Act.TheVariants as act;
 ghost use Rattle.ov_model.specs.declared.stand.Stand.TheVariants as stand;
 ghost use Rattle.ov_model.specs.Tables.{Material};

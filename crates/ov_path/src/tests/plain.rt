@@ -1,8 +1,8 @@
 // A second desk, over plain lists: one peer, one key, and the events of its line as they came.
 
-ghost use Rattle.std.specs.Prelude.{◌≡◌, ◌<◌, ◌++◌, None, [], IfOk, vec_len};
+ghost use Rattle.std.specs.Prelude.{◌≡◌, ◌<◌, ◌++◌, [], IfOk, vec_len};
 ghost use Rattle.std.specs.Vec.{vec_capacity};
-ghost use Rattle.ov_path.specs.Desks.{NoHold, held_after, look_holds, peer_left, owed_if, IsReplyOf, HasMaterial};
+ghost use Rattle.ov_path.specs.Desks.{NoHold, held_after, owed_if, IsReplyOf, HasMaterial};
 ghost use Rattle.ov_path.specs.Plain.{Joined, one_key, listed, shown_of};
 
 use super::told::{Kind, Past, Told};
@@ -54,13 +54,6 @@ impl Hold {
         };
         self.view = Some(*view);
         self.left = false;
-    }
-
-    /// The key is given back.
-    fn leave(&mut self)
-        ensures { self.new ≡ peer_left self.old }
-    {
-        self.left = true;
     }
 }
 
@@ -247,7 +240,7 @@ impl Desk for Plain {
 
     fn give_back_key(&mut self, key: u32) -> Given {
         let given = give(&mut self.owing, self.last, Owed::Key(key));
-        self.hold.leave();
+        self.hold.left = true;
         self.drew = false;
         self.past.push(Told {
             kind: Kind::KeyBack(key, given),

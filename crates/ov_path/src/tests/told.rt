@@ -1,6 +1,6 @@
 // The events of a line as the plain desk stores them.
 
-ghost use Rattle.std.specs.Prelude.{◌≡◌, ◌≤◌, ◌<◌, ◌+◌, ◌++◌, ◌∷◌, [], OnOk, OnErr};
+ghost use Rattle.std.specs.Prelude.{◌≡◌, ◌<◌, ◌+◌, ◌++◌, ◌∷◌, [], OnOk, OnErr};
 ghost use Rattle.ov_model.specs.Events.{Stepped, release_of};
 ghost use Rattle.ov_path.specs.Desks.{stepped_as};
 ghost use Rattle.ov_path.specs.Plain.{taken_by};
