@@ -1,5 +1,5 @@
 -- A received datagram is delivered exactly where its parts say so.
-use Rattle.std.proofs.Common.{ℕ, ◌≡◌, List, [], ◌∷◌, ◌++◌, length, refl, sym, ◌∙◌, subst, ap, Bool, ◌==◌, inl, inr}
+use Rattle.std.proofs.Common.{ℕ, ◌≡◌, ◌≢◌, List, [], ◌∷◌, ◌++◌, length, refl, sym, ◌∙◌, subst, ap, Bool, ◌==◌, inl, inr}
 use Rattle.std.specs.Prelude.{max, Option, Some, None, IsSome, unwrap_or, position, slice_get, if◌then◌else◌}
 use Rattle.std.specs.List.{AllByRecursion}
 use Rattle.std.proofs.lemmas.Bool.{cases_eq, eq-eqb, ne_eqb}
@@ -22,6 +22,8 @@ use Rattle.ov_model.specs.declared.reply.Reply.TheVariants as reply
 use Rattle.ov_model.specs.declared.reply.Settled.{Settled}
 use Rattle.ov_model.specs.declared.reply.Settled.TheVariants as settled
 use Rattle.ov_model.specs.declared.replay.Verdict.TheVariants.{Accept}
+use Rattle.ov_model.specs.declared.replay.Refusal.{Refusal}
+use Rattle.ov_model.specs.declared.replay.Refusal.TheVariants as refusal
 use Rattle.ov_model.specs.declared.answer.Answer.{Answer}
 use Rattle.ov_model.specs.declared.answer.Answer.TheVariants as answer
 use Rattle.ov_model.specs.declared.stand.Use.TheVariants as used
@@ -37,7 +39,7 @@ use Rattle.ov_model.specs.Step.{is_serial, settled_as, settle_dying, settle_not_
 use Rattle.ov_model.specs.Runs.{IsRun}
 use Rattle.ov_model.specs.Packets.{HeadKind, short, data_v1, control, data_v2, head_of, Kind, from_source, ping, no_source, kind_of, opened, packet_id_of}
 use Rattle.ov_model.specs.Events.{Step, Judgement, of, shown_in, steps_of, step_of, release_of, releases}
-use Rattle.ov_model.specs.Path.{first, begins_rx, rx_look_by, packet_in, kind_via, settle_act, UseFits, hold_owed, Row, AtOnce, Commanded, Missed, Held, IsMiss, RowFits, use_steps, use_judgements, row_steps, row_judgements, row_answer}
+use Rattle.ov_model.specs.Path.{first, begins_rx, rx_look_by, packet_in, kind_via, settle_act, UseFits, refused_as, hold_owed, Row, AtOnce, Commanded, Missed, Held, IsMiss, RowFits, use_steps, use_judgements, row_steps, row_judgements, row_answer}
 use Rattle.ov_model.specs.Keys.{key_of}
 use Rattle.ov_model.specs.Legal.{Meets, Legal}
 use Rattle.ov_model.specs.Laws.{answer_at}
@@ -295,6 +297,13 @@ same_hold report lane line bytes id packet d at x h m us os material_is uses ste
     let material : m ≡ d.material = cc in
     (same, ap (λ (w : Material). opened w.decrypt bytes) material ∙ d.opens)
 
+-- A refusal isn't Accept.
+not_accepted : (x : Refusal) → refused_as x ≢ Accept
+not_accepted refusal.Zero = λ e. cc
+not_accepted refusal.Old = λ e. cc
+not_accepted refusal.Below = λ e. cc
+not_accepted refusal.Again = λ e. cc
+
 showing_row : (report : Report) (lane line : ℕ) (from : Transport) (bytes : List ℕ) (id : PeerId) (packet : List ℕ) (d : Delivers report lane line bytes id packet) → IsRun report.journal → (own at : ℕ) (row : Row)
     → let its : Line = record { lane = own; at = at; deed = deed.Rx from bytes } in
     RowFits (key_of report.journal) (λ b. b) its row → of (steps_of report.journal) lane line ≡ row_steps (λ b. b) (record { lane = lane; line = line }) its row → shown_in report.shards lane line ≡ row_judgements (record { lane = lane; line = line }) its row → row_answer its row ≡ answer.Delivered id packet
@@ -309,9 +318,9 @@ showing_row report lane line from bytes id packet d run own at (Held x h m used.
     let both = same_hold report lane line bytes id packet d at x h m [] (hold_owed h key peer) fits.1 tt steps in
     absurd (let bad : ◌≡◌ {A = Option (List ℕ)} None (Some packet) = sym fits.2 ∙ both.1 in cc)
 showing_row report lane line from bytes id packet d run own at (Held x h m (used.Refused v) key peer) fits steps judgements =
-    let P : Judgement → Type 0 = λ j. j.verdict ≡ v in
-    let verdict : d.replay.verdict ≡ v = judged_has P report.shards lane line d.shard d.place d.replay (subst (λ (js : List Judgement). AllByRecursion P js) (sym judgements) (refl, tt)) d.judged (here lane line d.replay.place d.judged_by) in
-    absurd (fits.2.1 (sym verdict ∙ d.fresh))
+    let P : Judgement → Type 0 = λ j. j.verdict ≡ refused_as v in
+    let verdict : d.replay.verdict ≡ refused_as v = judged_has P report.shards lane line d.shard d.place d.replay (subst (λ (js : List Judgement). AllByRecursion P js) (sym judgements) (refl, tt)) d.judged (here lane line d.replay.place d.judged_by) in
+    absurd (not_accepted v (sym verdict ∙ d.fresh))
 showing_row report lane line from bytes id packet d run own at (Held x h m (used.Settled s) key peer) fits steps judgements =
     let place : Place = record { lane = lane; line = line } in
     let via : Addr → Addr = λ b. b in

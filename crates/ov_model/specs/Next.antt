@@ -12,6 +12,7 @@ use Rattle.ov_model.specs.declared.reply.Reply.{Reply}
 use Rattle.ov_model.specs.declared.reply.Reply.TheVariants as reply
 use Rattle.ov_model.specs.declared.replay.Verdict.{Verdict}
 use Rattle.ov_model.specs.declared.replay.Verdict.TheVariants as verdict
+use Rattle.ov_model.specs.declared.replay.Refusal.TheVariants as refusal
 use Rattle.ov_model.specs.declared.stand.Stand.{Stand}
 use Rattle.ov_model.specs.declared.stand.Stand.TheVariants as stand
 use Rattle.ov_model.specs.declared.stand.Use.TheVariants as used
@@ -58,7 +59,10 @@ stepped s a r = s
 -- After a replay step.
 abbrev pub judged_as : HoldView → Verdict → Stand
 judged_as h verdict.Accept = stand.Judged h
-judged_as h v = stand.Used h (used.Refused v)
+judged_as h verdict.Zero = stand.Used h (used.Refused refusal.Zero)
+judged_as h verdict.Old = stand.Used h (used.Refused refusal.Old)
+judged_as h verdict.Below = stand.Used h (used.Refused refusal.Below)
+judged_as h verdict.Again = stand.Used h (used.Refused refusal.Again)
 
 abbrev pub judged : Stand → Verdict → Stand
 judged (stand.Looked h) v = judged_as h v

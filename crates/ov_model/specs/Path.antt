@@ -1,5 +1,5 @@
 -- Which steps and which answer one line has: a table over finished lists, one row for each case.
-use Rattle.std.specs.Prelude.{ℕ, ◌+◌, ◌≡◌, ◌≢◌, ⊤, List, [], ◌∷◌, ◌++◌, length, Bool, true, false, Option, Some, None, unwrap_or, map, Result, Ok, Err, IsSome}
+use Rattle.std.specs.Prelude.{ℕ, ◌+◌, ◌≡◌, ⊤, List, [], ◌∷◌, ◌++◌, length, Bool, true, false, Option, Some, None, unwrap_or, map, Result, Ok, Err, IsSome}
 use Rattle.ov_aes.specs.Aes.{key_list}
 use Rattle.ov_base.specs.declared.address.Addr.{Addr}
 use Rattle.ov_base.specs.declared.address.Addr.TheVariants.{V4, V6}
@@ -22,6 +22,8 @@ use Rattle.ov_model.specs.declared.reply.Reply.{Reply}
 use Rattle.ov_model.specs.declared.reply.Reply.TheVariants as reply
 use Rattle.ov_model.specs.declared.replay.Verdict.{Verdict}
 use Rattle.ov_model.specs.declared.replay.Verdict.TheVariants as verdict
+use Rattle.ov_model.specs.declared.replay.Refusal.{Refusal}
+use Rattle.ov_model.specs.declared.replay.Refusal.TheVariants as refusal
 use Rattle.ov_model.specs.declared.stand.Use.{Use}
 use Rattle.ov_model.specs.declared.stand.Use.TheVariants as used
 use Rattle.ov_model.specs.declared.line.Line.{Line}
@@ -125,7 +127,7 @@ abbrev pub UseFits : Deed → Material → Use → Type 0
 UseFits (deed.Tx packet) m (used.Sealed n) = ⊤
 UseFits (deed.Tx packet) m (used.Spent killed) = ⊤
 UseFits (deed.Rx from bytes) m used.BadTag = opened m.decrypt bytes ≡ None
-UseFits (deed.Rx from bytes) m (used.Refused v) = IsSome (opened m.decrypt bytes) × (v ≢ verdict.Accept)
+UseFits (deed.Rx from bytes) m (used.Refused x) = IsSome (opened m.decrypt bytes)
 UseFits (deed.Rx from bytes) m (used.Settled s) = IsSome (opened m.decrypt bytes)
 UseFits _ m _ = ⊥
 
@@ -159,9 +161,16 @@ use_steps via place at (deed.Tx packet) h m u = tx_steps place at h packet u
 use_steps via place at (deed.Rx from bytes) h m u = rx_steps via place at h (packet_in (deed.Rx from bytes) m) bytes u
 use_steps via place at (deed.Netlink n) h m u = []
 
+-- A refusal is one of the verdicts.
+abbrev pub refused_as : Refusal → Verdict
+refused_as refusal.Zero = verdict.Zero
+refused_as refusal.Old = verdict.Old
+refused_as refusal.Below = verdict.Below
+refused_as refusal.Again = verdict.Again
+
 -- The replay step that a use makes: where the tag verifies.
 abbrev pub rx_judgements : Place → ℕ → HoldView → List ℕ → Use → List Judgement
-rx_judgements place at h bytes (used.Refused v) = record { place = place; key = h.key; id = packet_id_of bytes; at = at; verdict = v } ∷ []
+rx_judgements place at h bytes (used.Refused x) = record { place = place; key = h.key; id = packet_id_of bytes; at = at; verdict = refused_as x } ∷ []
 rx_judgements place at h bytes (used.Settled s) = record { place = place; key = h.key; id = packet_id_of bytes; at = at; verdict = verdict.Accept } ∷ []
 rx_judgements place at h bytes _ = []
 
@@ -170,13 +179,12 @@ use_judgements place at (deed.Rx from bytes) h u = rx_judgements place at h byte
 use_judgements place at (deed.Tx packet) h u = []
 use_judgements place at (deed.Netlink n) h u = []
 
--- The answer of a use. A packet id that isn't fresh is dropped with the verdict's own cause.
-abbrev pub cause_of : Verdict → DropCause
-cause_of verdict.Accept = drop.Again
-cause_of verdict.Zero = drop.Zero
-cause_of verdict.Old = drop.Old
-cause_of verdict.Below = drop.Below
-cause_of verdict.Again = drop.Again
+-- The answer of a use. A packet id that isn't fresh is dropped with the refusal's own cause.
+abbrev pub cause_of : Refusal → DropCause
+cause_of refusal.Zero = drop.Zero
+cause_of refusal.Old = drop.Old
+cause_of refusal.Below = drop.Below
+cause_of refusal.Again = drop.Again
 
 abbrev pub settled_answer : Settled → HoldView → List ℕ → Answer
 settled_answer settled.Deliver h packet = answer.Delivered h.id packet
@@ -191,7 +199,7 @@ abbrev pub use_answer : Deed → HoldView → Material → Use → Answer
 use_answer d h m (used.Sealed n) = answer.Sealed (record { to = h.to; key = h.key; id = n; datagram = sealed_datagram h m n (packet_in d m) })
 use_answer d h m (used.Spent killed) = answer.Dropped drop.Spent
 use_answer d h m used.BadTag = answer.Dropped drop.BadTag
-use_answer d h m (used.Refused v) = answer.Dropped (cause_of v)
+use_answer d h m (used.Refused x) = answer.Dropped (cause_of x)
 use_answer d h m (used.Settled s) = settled_answer s h (packet_in d m)
 
 -- ---- the rows

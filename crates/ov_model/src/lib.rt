@@ -30,7 +30,7 @@ pub use netlink::{Cipher, NlKeyConf, NlKeyDir, NlMessage, NlOp, NlPeer};
 pub use note::{Note, NoteBody};
 pub use ov_aes::KeyBytes;
 pub use place::Place;
-pub use replay::{ReplayEntry, Verdict};
+pub use replay::{Refusal, ReplayEntry, Verdict};
 pub use reply::{Counts, Errno, HoldView, PeerView, Reply, Settled};
 pub use report::{LaneLog, Report, Unsent};
 pub use stand::{Stand, Use};

@@ -17,6 +17,15 @@ pub enum Verdict {
     Again,
 }
 
+/// The verdicts that don't accept a packet id, each as above.
+#[derive(Clone, Copy, Debug, PartialEq, Eq)]
+pub enum Refusal {
+    Zero,
+    Old,
+    Below,
+    Again,
+}
+
 /// One step of a replay window, as the report shows it. `at` is the step's own moment, `moment` the
 /// window's after it, both in whole seconds.
 #[derive(Clone, Copy, Debug, PartialEq, Eq)]

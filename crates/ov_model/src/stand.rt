@@ -1,7 +1,7 @@
 //! Where a line stands while it runs: all that its events so far say of what comes next.
 
 use crate::draw::Drawn;
-use crate::replay::Verdict;
+use crate::replay::Refusal;
 use crate::reply::{HoldView, Settled};
 
 /// What a line made of what it holds.
@@ -14,7 +14,7 @@ pub enum Use {
     /// The datagram's tag doesn't verify.
     BadTag,
     /// The packet id isn't fresh.
-    Refused(Verdict),
+    Refused(Refusal),
     /// The inner packet was settled.
     Settled(Settled),
 }

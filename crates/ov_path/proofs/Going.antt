@@ -1,5 +1,5 @@
 -- A line that runs goes on: each event leads from one stand to the next.
-use Rattle.std.proofs.Common.{ℕ, ◌≡◌, ◌≢◌, ◌≤◌, length, List, [], ◌∷◌, ◌++◌, refl, sym, ◌∙◌, ap, subst, append_assoc, append-nil}
+use Rattle.std.proofs.Common.{ℕ, ◌≡◌, ◌≤◌, length, List, [], ◌∷◌, ◌++◌, refl, sym, ◌∙◌, ap, subst, append_assoc, append-nil}
 use Rattle.std.specs.Prelude.{Option, Some, None, unwrap_or}
 use Rattle.ov_base.specs.declared.address.Addr.{Addr}
 use Rattle.ov_base.specs.declared.address.Transport.{Transport}
@@ -19,6 +19,8 @@ use Rattle.ov_model.specs.declared.reply.Reply.{Reply}
 use Rattle.ov_model.specs.declared.reply.Reply.TheVariants as reply
 use Rattle.ov_model.specs.declared.replay.Verdict.{Verdict}
 use Rattle.ov_model.specs.declared.replay.Verdict.TheVariants as verdict
+use Rattle.ov_model.specs.declared.replay.Refusal.{Refusal}
+use Rattle.ov_model.specs.declared.replay.Refusal.TheVariants as refused
 use Rattle.ov_model.specs.declared.stand.Use.{Use}
 use Rattle.ov_model.specs.declared.stand.Use.TheVariants as used
 use Rattle.ov_model.specs.declared.stand.Stand.{Stand}
@@ -28,12 +30,11 @@ use Rattle.ov_model.specs.declared.line.Deed.{Deed}
 use Rattle.ov_model.specs.declared.line.Deed.TheVariants as deed
 use Rattle.ov_model.specs.declared.answer.Answer.{Answer}
 use Rattle.ov_model.specs.declared.answer.Answer.TheVariants as answer
-use Rattle.ov_model.specs.declared.answer.DropCause.{DropCause}
 use Rattle.ov_model.specs.declared.answer.DropCause.TheVariants as drop
 use Rattle.ov_model.specs.Tables.{Material}
 use Rattle.ov_model.specs.Packets.{opened, packet_id_of}
 use Rattle.ov_model.specs.Events.{Event, Stepped, Judged, Drew, GaveKey, GavePeer, release_of}
-use Rattle.ov_model.specs.Path.{first, begins, IsLook, sent_act, settle_act, packet_in, sealed_datagram, cause_of, settled_answer, spent_reply}
+use Rattle.ov_model.specs.Path.{first, begins, IsLook, sent_act, settle_act, packet_in, sealed_datagram, refused_as, cause_of, settled_answer, spent_reply}
 use Rattle.ov_model.specs.Next as next
 use Rattle.ov_model.specs.Next.{Ask, Table, see, see_all, stand_of, is_killed, began, looked}
 use Rattle.ov_path.specs.Desks.{Holding, NoHold, Shown, Called, Joins, HasMaterial, HoldHas, IsReplyOf, IsLookReply, IsSpendReply, IsFree, MayCall, look_holds, Grows, with_event, held_after, peer_left, owed_if, first_owed, after_first, stepped_as}
@@ -203,40 +204,39 @@ judged_step {place = place} {line = line} {w = w} {h = h} {bytes = bytes} {packe
 })))
 
 -- A verdict that isn't Accept.
-pub record IsRefused (h : HoldView) (v : Verdict) (cause : DropCause) : Type 0 where
-  pub stand : next.judged_as h v ≡ stand.Used h (used.Refused v)
-  pub other : v ≢ verdict.Accept
-  pub cause_so : cause_of v ≡ cause
+pub record IsRefused (h : HoldView) (v : Verdict) (x : Refusal) : Type 0 where
+  pub stand : next.judged_as h v ≡ stand.Used h (used.Refused x)
+  pub is : v ≡ refused_as x
 
-pub is_refused : (h : HoldView) (v : Verdict) (cause : DropCause) → refusal v ≡ Some cause → IsRefused h v cause
-is_refused h verdict.Accept cause e = absurd (let same : ◌≡◌ {A = Option DropCause} None (Some cause) = e in cc)
-is_refused h verdict.Zero cause e = record { stand = refl; other = λ o. cc; cause_so = ap (λ q. unwrap_or q cause) e }
-is_refused h verdict.Old cause e = record { stand = refl; other = λ o. cc; cause_so = ap (λ q. unwrap_or q cause) e }
-is_refused h verdict.Below cause e = record { stand = refl; other = λ o. cc; cause_so = ap (λ q. unwrap_or q cause) e }
-is_refused h verdict.Again cause e = record { stand = refl; other = λ o. cc; cause_so = ap (λ q. unwrap_or q cause) e }
+pub is_refused : (h : HoldView) (v : Verdict) (x : Refusal) → refusal v ≡ Some x → IsRefused h v x
+is_refused h verdict.Accept x e = absurd (let same : ◌≡◌ {A = Option Refusal} None (Some x) = e in cc)
+is_refused h verdict.Zero x e = let same : refused.Zero ≡ x = ap (λ q. unwrap_or q x) e in record { stand = rw (← same) refl; is = rw (← same) refl }
+is_refused h verdict.Old x e = let same : refused.Old ≡ x = ap (λ q. unwrap_or q x) e in record { stand = rw (← same) refl; is = rw (← same) refl }
+is_refused h verdict.Below x e = let same : refused.Below ≡ x = ap (λ q. unwrap_or q x) e in record { stand = rw (← same) refl; is = rw (← same) refl }
+is_refused h verdict.Again x e = let same : refused.Again ≡ x = ap (λ q. unwrap_or q x) e in record { stand = rw (← same) refl; is = rw (← same) refl }
 
 pub is_accepted : (v : Verdict) → refusal v ≡ None → v ≡ verdict.Accept
 is_accepted verdict.Accept e = refl
-is_accepted verdict.Zero e = absurd (let same : ◌≡◌ {A = Option DropCause} (Some drop.Zero) None = e in cc)
-is_accepted verdict.Old e = absurd (let same : ◌≡◌ {A = Option DropCause} (Some drop.Old) None = e in cc)
-is_accepted verdict.Below e = absurd (let same : ◌≡◌ {A = Option DropCause} (Some drop.Below) None = e in cc)
-is_accepted verdict.Again e = absurd (let same : ◌≡◌ {A = Option DropCause} (Some drop.Again) None = e in cc)
+is_accepted verdict.Zero e = absurd (let same : ◌≡◌ {A = Option Refusal} (Some refused.Zero) None = e in cc)
+is_accepted verdict.Old e = absurd (let same : ◌≡◌ {A = Option Refusal} (Some refused.Old) None = e in cc)
+is_accepted verdict.Below e = absurd (let same : ◌≡◌ {A = Option Refusal} (Some refused.Below) None = e in cc)
+is_accepted verdict.Again e = absurd (let same : ◌≡◌ {A = Option Refusal} (Some refused.Again) None = e in cc)
 
-pub refused_step : {m n : ℕ → Option Material} {via vib : Addr → Addr} {place : Place} {line : Line} {w v : Shown} {h : HoldView} {a : Option Answer} {from : Transport} {bytes packet : List ℕ} (p : Material) (id : ℕ) (x : Verdict) (cause : DropCause) →
-    Walking m via place line w (stand.Looked h) a → line.deed ≡ deed.Rx from bytes → n h.key ≡ Some p → Some packet ≡ opened p.decrypt bytes → vib ≡ via → id ≡ packet_id_of bytes → refusal x ≡ Some cause →
-    v ≡ with_event w (Judged (record { place = place; key = h.key; id = id; at = line.at; verdict = x })) →
-    Walking n vib place line v (stand.Used h (used.Refused x)) (Some (answer.Dropped cause))
-refused_step {place = place} {line = line} {w = w} {h = h} {bytes = bytes} {packet = packet} p id x cause k deed_is has inner same id_is refuses is =
-    let r : IsRefused h x cause = is_refused h x cause refuses in
+pub refused_step : {m n : ℕ → Option Material} {via vib : Addr → Addr} {place : Place} {line : Line} {w v : Shown} {h : HoldView} {a : Option Answer} {from : Transport} {bytes packet : List ℕ} (p : Material) (id : ℕ) (j : Verdict) (x : Refusal) →
+    Walking m via place line w (stand.Looked h) a → line.deed ≡ deed.Rx from bytes → n h.key ≡ Some p → Some packet ≡ opened p.decrypt bytes → vib ≡ via → id ≡ packet_id_of bytes → refusal j ≡ Some x →
+    v ≡ with_event w (Judged (record { place = place; key = h.key; id = id; at = line.at; verdict = j })) →
+    Walking n vib place line v (stand.Used h (used.Refused x)) (Some (answer.Dropped (cause_of x)))
+refused_step {place = place} {line = line} {w = w} {h = h} {bytes = bytes} {packet = packet} p id j x k deed_is has inner same id_is refuses is =
+    let r : IsRefused h j x = is_refused h j x refuses in
     rw same (rw is (rw id_is (record {
-      stand = seen (stand.Looked h) w.events (judged_as place line.at h bytes x) k.stand ∙ r.stand;
+      stand = seen (stand.Looked h) w.events (judged_as place line.at h bytes j) k.stand ∙ r.stand;
       hold = k.hold;
       trail = record {
         m = p;
-        fits = rw deed_is (rw (← inner) refl, r.other);
-        held = record { look = k.trail.held.look; begins_so = k.trail.held.begins_so; has = has; events = rw (k.trail.held.events, deed_is) refl };
+        fits = rw deed_is (rw (← inner) refl);
+        held = record { look = k.trail.held.look; begins_so = k.trail.held.begins_so; has = has; events = rw (k.trail.held.events, deed_is, r.is) refl };
         owes = k.trail.owes;
-        answer = rw r.cause_so refl;
+        answer = refl;
       };
     })))
 

@@ -5,9 +5,10 @@ use Rattle.ov_model.specs.declared.line.Deed.{Deed}
 use Rattle.ov_model.specs.declared.line.Deed.TheVariants as deed
 use Rattle.ov_model.specs.declared.replay.Verdict.{Verdict}
 use Rattle.ov_model.specs.declared.replay.Verdict.TheVariants as verdict
-use Rattle.ov_model.specs.declared.answer.DropCause.{DropCause}
+use Rattle.ov_model.specs.declared.replay.Refusal.{Refusal}
+use Rattle.ov_model.specs.declared.replay.Refusal.TheVariants as refused
 use Rattle.ov_model.specs.Packets.{HeadKind, data_v2}
-use Rattle.ov_model.specs.Path.{Begin, at_once, first, IsLook, cause_of}
+use Rattle.ov_model.specs.Path.{Begin, at_once, first, IsLook}
 use Rattle.ov_path.specs.declared.begun.Begun.{Begun}
 use Rattle.ov_path.specs.declared.begun.Begun.TheVariants as begun
 
@@ -33,9 +34,12 @@ LooksOnly (begun.Command c) = ⊤
 LooksOnly (begun.Look a) = IsLook a
 
 -- Why a packet id isn't taken, where it isn't.
-abbrev pub refusal : Verdict → Option DropCause
+abbrev pub refusal : Verdict → Option Refusal
 refusal verdict.Accept = None
-refusal v = Some (cause_of v)
+refusal verdict.Zero = Some refused.Zero
+refusal verdict.Old = Some refused.Old
+refusal verdict.Below = Some refused.Below
+refusal verdict.Again = Some refused.Again
 
 -- A line that can hold a peer and its key.
 abbrev pub CanHold : Deed → Type 0

@@ -28,12 +28,13 @@ use Rattle.ov_model.specs.Tables.{Material}
 use Rattle.ov_model.specs.Packets.{opened, packet_id_of}
 use Rattle.ov_model.specs.Events.{Event, Stepped, Judged, Drew, GaveKey, GavePeer, steps_in, judgements_in, draws_in, step_of, releases}
 use Rattle.ov_model.specs.Keys.{sealed_ids}
-use Rattle.ov_model.specs.Path.{first, begins, SomeOwed, removed, UseFits, spent_reply, spent_taken, sent_act, settle_act, use_answer, packet_in, Path}
-use Rattle.ov_model.specs.Next.{Ask, Nil, stand_of, request}
-use Rattle.ov_path.specs.Desks.{Holding, NoHold, Both, PeerLeft, Shown, owed_if}
+use Rattle.ov_model.specs.Path.{first, begins, SomeOwed, removed, UseFits, refused_as, spent_reply, spent_taken, sent_act, settle_act, use_answer, packet_in, Path}
+use Rattle.ov_model.specs.Next.{Ask, Nil, next, stand_of, request}
+use Rattle.ov_path.specs.Desks.{Holding, NoHold, Both, PeerLeft, Shown, Grows, owed_if}
 use Rattle.ov_path.specs.Parts.{CanHold}
 use Rattle.ov_path.specs.declared.walk.Progress.{Progress}
 use Rattle.ov_path.specs.declared.walk.Progress.TheVariants.{More, Answered}
+use Rattle.ov_path.specs.declared.walk.Walk.{Walk}
 
 -- ---- what happened so far
 
@@ -51,7 +52,7 @@ tx_events place at h packet (used.Spent killed) = Drew h.key drawn.Spent ∷ Ste
 tx_events place at h packet _ = []
 
 abbrev pub rx_events : (Addr → Addr) → Place → ℕ → HoldView → (packet bytes : List ℕ) → Use → List Event
-rx_events via place at h packet bytes (used.Refused v) = judged_as place at h bytes v ∷ []
+rx_events via place at h packet bytes (used.Refused x) = judged_as place at h bytes (refused_as x) ∷ []
 rx_events via place at h packet bytes (used.Settled s) = judged_as place at h bytes verdict.Accept ∷ Stepped (step_of place at (settle_act via h packet bytes) (reply.Settled s) []) ∷ []
 rx_events via place at h packet bytes _ = []
 
@@ -220,3 +221,31 @@ pub data MadeOrNone {D : Type 0} (does : Event → D → Type 0) (asked : Ask) (
 abbrev pub MadeBy : {D : Type 0} → Progress → (Event → D → Type 0) → Ask → Shown → Shown → D → D → Type 0
 MadeBy More does asked old new before after = Made does asked old new after
 MadeBy (Answered b) does asked old new before after = MadeOrNone does asked old new before after
+
+-- ---- the stages of a turn
+
+-- A stage is one part of a turn, at a desk of any kind: `shown`, `material`, `via` and `does` are what the
+-- trait Desk says of it.
+
+-- By what the desk shows of the line, the walk stands there.
+abbrev pub Stands : {D : Type 0} → (D → Shown) → (D → ℕ → Option Material) → (D → Addr → Addr) → D → Line → Walk → Stand → Type 0
+Stands shown material via desk line walk s = Walking (material desk) (via desk) walk.place line (shown desk) s walk.answer
+
+-- The walk stands where it says, and has an event or an answer to come.
+abbrev pub GoesOn : {D : Type 0} → (D → Shown) → (D → ℕ → Option Material) → (D → Addr → Addr) → D → Line → Walk → Type 0
+GoesOn shown material via desk line walk = Stands shown material via desk line walk walk.stand × IsOpen walk.stand (shown desk).owing
+
+-- The walk goes on, or its line is over, as the turn answers.
+abbrev pub Turned : {D : Type 0} → (D → Shown) → (D → ℕ → Option Material) → (D → Addr → Addr) → D → Line → Walk → Progress → Type 0
+Turned shown material via desk line walk r = Progressed (material desk) (via desk) walk.place line (shown desk) walk.stand walk.answer r
+
+-- The stage made the one event that came next.
+abbrev pub MadeNext : {D : Type 0} → (D → Shown) → (D → ℕ → Option Material) → (D → Addr → Addr) → (D → Event → D → Type 0) → Line → (before after : D) → Type 0
+MadeNext shown material via does line before after = Made (does before) (next (via before) (material after) line (shown before).events (shown before).owing) (shown before) (shown after) after
+
+-- Whatever the stage did, the desk has what it had of the keys and the same next hops, and the walk its
+-- place.
+pub record Stays {D : Type 0} (material : D → ℕ → Option Material) (via : D → Addr → Addr) (before after : D) (old new : Walk) : Type 0 where
+  pub keys : Grows (material before) (material after)
+  pub hops : via after ≡ via before
+  pub place : new.place ≡ old.place

@@ -13,7 +13,7 @@ use ov_nl::call_of;
 use ov_packet::{HeadStop, InnerFacts, inner, read_head};
 
 /// A line is answered without a step, or begins with a step of the peer table.
-#[derive(Debug, Drop, PartialEq, Eq)]
+#[derive(Drop)]
 pub enum Begun {
     AtOnce(Answer),
     Command(Command),

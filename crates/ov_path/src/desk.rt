@@ -38,8 +38,9 @@ pub trait Desk {
         ensures grows { Grows (material self.old) (material self.new) }
         ensures via { via self.new ≡ via self.old };
 
-    /// The two directions of a key: None, or what the desk has of it, and Some where the key is held and not used yet. This makes no event: what an
-    /// event makes of the desk afterwards it makes of the desk before, too.
+    /// The two directions of a key: None, or what the desk has of it, and Some where the key is held and not
+    /// used yet. This makes no event: what an event makes of the desk afterwards it makes of the desk before,
+    /// too.
     fn pair(&mut self, key: u32) -> Option<KeyPair>
         ensures is { (m : Material) → result ≡ Some m → material self.new key ≡ Some m }
         ensures some { HoldsKey (shown self.old).hold key → IsUnused (stand_of (shown self.old).events) → IsSome result }

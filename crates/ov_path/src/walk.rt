@@ -1,20 +1,19 @@
 // The turns of one line: each makes the next event of the line, and the last one answers it.
 
-ghost use Rattle.std.specs.Prelude.{ℕ, ◌≡◌, ◌≤◌, [], None, Some, length, OnOk, OnErr, IfOk, IsSome, Option};
+ghost use Rattle.std.specs.Prelude.{ℕ, ◌≡◌, [], None, Some, OnOk, OnErr, IfOk, IsSome, Option};
 ghost use Rattle.ov_base.specs.declared.address.Addr.{Addr};
 ghost use Rattle.ov_model.specs.declared.draw.Drawn.TheVariants as drawn;
 ghost use Rattle.ov_model.specs.declared.line.Line.{Line};
-ghost use Rattle.ov_model.specs.declared.line.Deed.TheVariants as deed;
 ghost use Rattle.ov_model.specs.declared.act.Act.TheVariants as act;
 ghost use Rattle.ov_model.specs.declared.stand.Stand.TheVariants as stand;
 ghost use Rattle.ov_model.specs.Tables.{Material};
-ghost use Rattle.ov_model.specs.Path.{begins, first, settled_answer, IsLook};
+ghost use Rattle.ov_model.specs.Path.{begins, cause_of, first, settled_answer, IsLook};
 ghost use Rattle.ov_model.specs.Events.{Event};
 ghost use Rattle.ov_model.specs.Next.{next, is_killed, stand_of};
 ghost use Rattle.ov_path.specs.Desks.{NoHold, HoldsKey, IsUnused, first_owed, Grows};
 ghost use Rattle.ov_model.specs.Sizes.{Fits};
 ghost use Rattle.ov_path.specs.Parts.{refusal};
-ghost use Rattle.ov_path.specs.Walks.{Walking, IsOpen, Progressed, IsTx, IsRx, AnswerIs, Made, MadeOrNone, MadeBy};
+ghost use Rattle.ov_path.specs.Walks.{Walking, IsOpen, Progressed, IsTx, IsRx, AnswerIs, MadeBy, Stands, GoesOn, Turned, MadeNext, Stays};
 
 use crate::begun::{Begun, begin_of};
 use crate::calls::{sent_of, settle_of};
@@ -24,8 +23,8 @@ use crate::seal::seal;
 use ov_base::{Memory, Octets};
 use ov_keys::KeyPair;
 use ov_model::{
-    Act, Answer, Call, Command, Deed, Drawn, DropCause, HoldView, Line, Owed, Place, Reply,
-    SealedOut, Settled, Stand, Use, Verdict,
+    Act, Answer, Call, Command, Deed, Drawn, DropCause, HoldView, Line, Owed, Place, Refusal,
+    Reply, SealedOut, Settled, Stand, Use, Verdict,
 };
 use std::alloc::Global;
 
@@ -62,27 +61,22 @@ impl Walk {
 
     /// Makes the release that is owed first.
     fn release<D: Desk>(&mut self, desk: &mut D, line: &Line, owed: Owed)
-        requires at { Walking (D.material desk.old) (D.via desk.old) self.old.place line.now (D.shown desk.old) self.old.stand self.old.answer }
+        requires at { Stands D.shown D.material D.via desk.old line.now self.old self.old.stand }
         requires first { first_owed (D.shown desk.old).owing ≡ Some owed }
-        ensures then { Walking (D.material desk.new) (D.via desk.new) self.new.place line.now (D.shown desk.new) self.new.stand self.new.answer }
-        ensures made { Made (D.does desk.old) (next (D.via desk.old) (D.material desk.new) line.now (D.shown desk.old).events (D.shown desk.old).owing) (D.shown desk.old) (D.shown desk.new) desk.new }
-        ensures grows { Grows (D.material desk.old) (D.material desk.new) }
-        ensures via { D.via desk.new ≡ D.via desk.old }
-        ensures place { self.new.place ≡ self.old.place }
+        ensures then { Stands D.shown D.material D.via desk.new line.now self.new self.new.stand }
+        ensures made { MadeNext D.shown D.material D.via D.does line.now desk.old desk.new }
+        ensures stays { Stays D.material D.via desk.old desk.new self.old self.new }
     {
         desk.release(self.place, line.at, owed);
     }
 
     /// The key's counter is asked for a packet id.
     fn draw<D: Desk>(&mut self, desk: &mut D, line: &Line, hold: HoldView)
-        requires at { Walking (D.material desk.old) (D.via desk.old) self.old.place line.now (D.shown desk.old) (stand.Looked hold) self.old.answer }
+        requires at { Stands D.shown D.material D.via desk.old line.now self.old (stand.Looked hold) }
         requires tx { IsTx line.now.deed }
-        ensures then { Walking (D.material desk.new) (D.via desk.new) self.new.place line.now (D.shown desk.new) self.new.stand self.new.answer }
-        ensures open { IsOpen self.new.stand (D.shown desk.new).owing }
-        ensures made { Made (D.does desk.old) (next (D.via desk.old) (D.material desk.new) line.now (D.shown desk.old).events (D.shown desk.old).owing) (D.shown desk.old) (D.shown desk.new) desk.new }
-        ensures grows { Grows (D.material desk.old) (D.material desk.new) }
-        ensures via { D.via desk.new ≡ D.via desk.old }
-        ensures place { self.new.place ≡ self.old.place }
+        ensures then { GoesOn D.shown D.material D.via desk.new line.now self.new }
+        ensures made { MadeNext D.shown D.material D.via D.does line.now desk.old desk.new }
+        ensures stays { Stays D.material D.via desk.old desk.new self.old self.new }
     {
         let drawn = desk.draw(hold.key);
         self.stand = Stand::Drew(hold, drawn);
@@ -90,13 +84,10 @@ impl Walk {
 
     /// The hold on the key is given back, after it was used.
     fn key_back<D: Desk>(&mut self, desk: &mut D, line: &Line, hold: HoldView, made: Use)
-        requires at { Walking (D.material desk.old) (D.via desk.old) self.old.place line.now (D.shown desk.old) (stand.Used hold made) self.old.answer }
-        ensures then { Walking (D.material desk.new) (D.via desk.new) self.new.place line.now (D.shown desk.new) self.new.stand self.new.answer }
-        ensures open { IsOpen self.new.stand (D.shown desk.new).owing }
-        ensures made { Made (D.does desk.old) (next (D.via desk.old) (D.material desk.new) line.now (D.shown desk.old).events (D.shown desk.old).owing) (D.shown desk.old) (D.shown desk.new) desk.new }
-        ensures grows { Grows (D.material desk.old) (D.material desk.new) }
-        ensures via { D.via desk.new ≡ D.via desk.old }
-        ensures place { self.new.place ≡ self.old.place }
+        requires at { Stands D.shown D.material D.via desk.old line.now self.old (stand.Used hold made) }
+        ensures then { GoesOn D.shown D.material D.via desk.new line.now self.new }
+        ensures made { MadeNext D.shown D.material D.via D.does line.now desk.old desk.new }
+        ensures stays { Stays D.material D.via desk.old desk.new self.old self.new }
     {
         desk.give_back_key(hold.key);
         self.stand = Stand::KeyGiven(hold, made);
@@ -104,13 +95,11 @@ impl Walk {
 
     /// The hold on the peer is given back, after that on the key.
     fn peer_back<D: Desk>(&mut self, desk: &mut D, line: &Line, hold: HoldView, made: Use)
-        requires at { Walking (D.material desk.old) (D.via desk.old) self.old.place line.now (D.shown desk.old) (stand.KeyGiven hold made) self.old.answer }
+        requires at { Stands D.shown D.material D.via desk.old line.now self.old (stand.KeyGiven hold made) }
         requires none { (D.shown desk.old).owing ≡ [] }
-        ensures then { Walking (D.material desk.new) (D.via desk.new) self.new.place line.now (D.shown desk.new) self.new.stand self.new.answer }
-        ensures made { Made (D.does desk.old) (next (D.via desk.old) (D.material desk.new) line.now (D.shown desk.old).events (D.shown desk.old).owing) (D.shown desk.old) (D.shown desk.new) desk.new }
-        ensures grows { Grows (D.material desk.old) (D.material desk.new) }
-        ensures via { D.via desk.new ≡ D.via desk.old }
-        ensures place { self.new.place ≡ self.old.place }
+        ensures then { Stands D.shown D.material D.via desk.new line.now self.new self.new.stand }
+        ensures made { MadeNext D.shown D.material D.via D.does line.now desk.old desk.new }
+        ensures stays { Stays D.material D.via desk.old desk.new self.old self.new }
     {
         desk.give_back(hold.peer);
         self.stand = Stand::PeerGiven(hold, made);
@@ -118,8 +107,8 @@ impl Walk {
 
     /// Answers the line where its last event was made and nothing is owed.
     fn finish<D: Desk>(&mut self, desk: &D, _line: &Line) -> Progress
-        requires at { Walking (D.material desk.now) (D.via desk.now) self.old.place _line.now (D.shown desk.now) self.old.stand self.old.answer }
-        ensures then { Progressed (D.material desk.now) (D.via desk.now) self.new.place _line.now (D.shown desk.now) self.new.stand self.new.answer result }
+        requires at { Stands D.shown D.material D.via desk.now _line.now self.old self.old.stand }
+        ensures then { Turned D.shown D.material D.via desk.now _line.now self.new result }
         ensures place { self.new.place ≡ self.old.place }
     {
         if desk.owed().is_some() {
@@ -158,15 +147,12 @@ impl Walk {
         line: &Line,
         command: Command,
     ) -> Result<Progress, Memory>
-        requires at { Walking (D.material desk.old) (D.via desk.old) self.old.place line.now (D.shown desk.old) stand.Fresh self.old.answer }
+        requires at { Stands D.shown D.material D.via desk.old line.now self.old stand.Fresh }
         requires begins { begins (D.via desk.old) line.now.deed ≡ first (act.Do command) }
-        ensures then { IfOk result (λ r. Progressed (D.material desk.new) (D.via desk.new) self.new.place line.now (D.shown desk.new) self.new.stand self.new.answer r) }
-        ensures made { OnOk result (Made (D.does desk.old) (next (D.via desk.old) (D.material desk.new) line.now (D.shown desk.old).events (D.shown desk.old).owing) (D.shown desk.old) (D.shown desk.new) desk.new) }
-        ensures err { OnErr result (D.shown desk.new ≡ D.shown desk.old) }
-        ensures kept { OnErr result (self.new ≡ self.old) }
-        ensures grows { Grows (D.material desk.old) (D.material desk.new) }
-        ensures via { D.via desk.new ≡ D.via desk.old }
-        ensures place { self.new.place ≡ self.old.place }
+        ensures then { IfOk result (λ r. Turned D.shown D.material D.via desk.new line.now self.new r) }
+        ensures made { OnOk result (MadeNext D.shown D.material D.via D.does line.now desk.old desk.new) }
+        ensures err { OnErr result ((D.shown desk.new ≡ D.shown desk.old) × (self.new ≡ self.old)) }
+        ensures stays { Stays D.material D.via desk.old desk.new self.old self.new }
     {
         let call = Call {
             at: line.at,
@@ -180,17 +166,14 @@ impl Walk {
 
     /// A look-up is made. Where it finds nothing the line is answered.
     fn look<D: Desk>(&mut self, desk: &mut D, line: &Line, act: Act) -> Result<Progress, Memory>
-        requires at { Walking (D.material desk.old) (D.via desk.old) self.old.place line.now (D.shown desk.old) stand.Fresh self.old.answer }
+        requires at { Stands D.shown D.material D.via desk.old line.now self.old stand.Fresh }
         requires begins { begins (D.via desk.old) line.now.deed ≡ first act }
         requires look { IsLook act }
         requires none { self.old.answer ≡ None }
-        ensures then { IfOk result (λ r. Progressed (D.material desk.new) (D.via desk.new) self.new.place line.now (D.shown desk.new) self.new.stand self.new.answer r) }
-        ensures made { OnOk result (Made (D.does desk.old) (next (D.via desk.old) (D.material desk.new) line.now (D.shown desk.old).events (D.shown desk.old).owing) (D.shown desk.old) (D.shown desk.new) desk.new) }
-        ensures err { OnErr result (D.shown desk.new ≡ D.shown desk.old) }
-        ensures kept { OnErr result (self.new ≡ self.old) }
-        ensures grows { Grows (D.material desk.old) (D.material desk.new) }
-        ensures via { D.via desk.new ≡ D.via desk.old }
-        ensures place { self.new.place ≡ self.old.place }
+        ensures then { IfOk result (λ r. Turned D.shown D.material D.via desk.new line.now self.new r) }
+        ensures made { OnOk result (MadeNext D.shown D.material D.via D.does line.now desk.old desk.new) }
+        ensures err { OnErr result ((D.shown desk.new ≡ D.shown desk.old) × (self.new ≡ self.old)) }
+        ensures stays { Stays D.material D.via desk.old desk.new self.old self.new }
     {
         let call = Call { at: line.at, act };
         match desk.table(self.place, &call)? {
@@ -206,14 +189,11 @@ impl Walk {
 
     /// The line begins, or is answered at once.
     fn begin<D: Desk>(&mut self, desk: &mut D, line: &Line) -> Result<Progress, Memory>
-        requires at { Walking (D.material desk.old) (D.via desk.old) self.old.place line.now (D.shown desk.old) stand.Fresh self.old.answer }
-        ensures then { IfOk result (λ r. Progressed (D.material desk.new) (D.via desk.new) self.new.place line.now (D.shown desk.new) self.new.stand self.new.answer r) }
+        requires at { Stands D.shown D.material D.via desk.old line.now self.old stand.Fresh }
+        ensures then { IfOk result (λ r. Turned D.shown D.material D.via desk.new line.now self.new r) }
         ensures made { IfOk result (λ r. MadeBy r (D.does desk.old) (next (D.via desk.old) (D.material desk.new) line.now (D.shown desk.old).events (D.shown desk.old).owing) (D.shown desk.old) (D.shown desk.new) desk.old desk.new) }
-        ensures err { OnErr result (D.shown desk.new ≡ D.shown desk.old) }
-        ensures kept { OnErr result (self.new ≡ self.old) }
-        ensures grows { Grows (D.material desk.old) (D.material desk.new) }
-        ensures via { D.via desk.new ≡ D.via desk.old }
-        ensures place { self.new.place ≡ self.old.place }
+        ensures err { OnErr result ((D.shown desk.new ≡ D.shown desk.old) × (self.new ≡ self.old)) }
+        ensures stays { Stays D.material D.via desk.old desk.new self.old self.new }
     {
         match begin_of(desk, &line.deed) {
             Begun::AtOnce(answer) => Ok(Progress::Answered(answer)),
@@ -231,16 +211,12 @@ impl Walk {
         hold: HoldView,
         id: u32,
     ) -> Result<(), Memory>
-        requires at { Walking (D.material desk.old) (D.via desk.old) self.old.place line.now (D.shown desk.old) (stand.Drew hold (drawn.Id id)) self.old.answer }
+        requires at { Stands D.shown D.material D.via desk.old line.now self.old (stand.Drew hold (drawn.Id id)) }
         requires fits { Fits line.now.deed }
-        ensures then { OnOk result (Walking (D.material desk.new) (D.via desk.new) self.new.place line.now (D.shown desk.new) self.new.stand self.new.answer) }
-        ensures open { OnOk result (IsOpen self.new.stand (D.shown desk.new).owing) }
-        ensures made { OnOk result (Made (D.does desk.old) (next (D.via desk.old) (D.material desk.new) line.now (D.shown desk.old).events (D.shown desk.old).owing) (D.shown desk.old) (D.shown desk.new) desk.new) }
-        ensures err { OnErr result (D.shown desk.new ≡ D.shown desk.old) }
-        ensures kept { OnErr result (self.new ≡ self.old) }
-        ensures grows { Grows (D.material desk.old) (D.material desk.new) }
-        ensures via { D.via desk.new ≡ D.via desk.old }
-        ensures place { self.new.place ≡ self.old.place }
+        ensures then { OnOk result (GoesOn D.shown D.material D.via desk.new line.now self.new) }
+        ensures made { OnOk result (MadeNext D.shown D.material D.via D.does line.now desk.old desk.new) }
+        ensures err { OnErr result ((D.shown desk.new ≡ D.shown desk.old) × (self.new ≡ self.old)) }
+        ensures stays { Stays D.material D.via desk.old desk.new self.old self.new }
     {
         let Deed::Tx(packet) = &line.deed else {
             unreachable!();
@@ -264,15 +240,11 @@ impl Walk {
 
     /// The key has no packet id left: it is taken out of its slot, where it still stands in one.
     fn spend<D: Desk>(&mut self, desk: &mut D, line: &Line, hold: HoldView) -> Result<(), Memory>
-        requires at { Walking (D.material desk.old) (D.via desk.old) self.old.place line.now (D.shown desk.old) (stand.Drew hold drawn.Spent) self.old.answer }
-        ensures then { OnOk result (Walking (D.material desk.new) (D.via desk.new) self.new.place line.now (D.shown desk.new) self.new.stand self.new.answer) }
-        ensures open { OnOk result (IsOpen self.new.stand (D.shown desk.new).owing) }
-        ensures made { OnOk result (Made (D.does desk.old) (next (D.via desk.old) (D.material desk.new) line.now (D.shown desk.old).events (D.shown desk.old).owing) (D.shown desk.old) (D.shown desk.new) desk.new) }
-        ensures err { OnErr result (D.shown desk.new ≡ D.shown desk.old) }
-        ensures kept { OnErr result (self.new ≡ self.old) }
-        ensures grows { Grows (D.material desk.old) (D.material desk.new) }
-        ensures via { D.via desk.new ≡ D.via desk.old }
-        ensures place { self.new.place ≡ self.old.place }
+        requires at { Stands D.shown D.material D.via desk.old line.now self.old (stand.Drew hold drawn.Spent) }
+        ensures then { OnOk result (GoesOn D.shown D.material D.via desk.new line.now self.new) }
+        ensures made { OnOk result (MadeNext D.shown D.material D.via D.does line.now desk.old desk.new) }
+        ensures err { OnErr result ((D.shown desk.new ≡ D.shown desk.old) × (self.new ≡ self.old)) }
+        ensures stays { Stays D.material D.via desk.old desk.new self.old self.new }
     {
         let Deed::Tx(_) = &line.deed else {
             unreachable!();
@@ -299,17 +271,13 @@ impl Walk {
         line: &Line,
         hold: HoldView,
     ) -> Result<(), Memory>
-        requires at { Walking (D.material desk.old) (D.via desk.old) self.old.place line.now (D.shown desk.old) (stand.Looked hold) self.old.answer }
+        requires at { Stands D.shown D.material D.via desk.old line.now self.old (stand.Looked hold) }
         requires rx { IsRx line.now.deed }
         requires fits { Fits line.now.deed }
-        ensures then { OnOk result (Walking (D.material desk.new) (D.via desk.new) self.new.place line.now (D.shown desk.new) self.new.stand self.new.answer) }
-        ensures open { OnOk result (IsOpen self.new.stand (D.shown desk.new).owing) }
-        ensures made { OnOk result (Made (D.does desk.old) (next (D.via desk.old) (D.material desk.new) line.now (D.shown desk.old).events (D.shown desk.old).owing) (D.shown desk.old) (D.shown desk.new) desk.new) }
-        ensures err { OnErr result (D.shown desk.new ≡ D.shown desk.old) }
-        ensures kept { OnErr result (self.new ≡ self.old) }
-        ensures grows { Grows (D.material desk.old) (D.material desk.new) }
-        ensures via { D.via desk.new ≡ D.via desk.old }
-        ensures place { self.new.place ≡ self.old.place }
+        ensures then { OnOk result (GoesOn D.shown D.material D.via desk.new line.now self.new) }
+        ensures made { OnOk result (MadeNext D.shown D.material D.via D.does line.now desk.old desk.new) }
+        ensures err { OnErr result ((D.shown desk.new ≡ D.shown desk.old) × (self.new ≡ self.old)) }
+        ensures stays { Stays D.material D.via desk.old desk.new self.old self.new }
     {
         let Deed::Rx { datagram, .. } = &line.deed else {
             unreachable!();
@@ -327,9 +295,9 @@ impl Walk {
         let id = packet_id(datagram.as_slice());
         let verdict = desk.replay(self.place, hold.key, id, line.at)?;
         match refusal_of(verdict) {
-            Some(cause) => {
-                self.stand = Stand::Used(hold, Use::Refused(verdict));
-                self.answer = Some(Answer::Dropped(cause));
+            Some(refusal) => {
+                self.stand = Stand::Used(hold, Use::Refused(refusal));
+                self.answer = Some(Answer::Dropped(dropped_as(refusal)));
                 Ok(())
             }
             None => {
@@ -345,16 +313,12 @@ impl Walk {
 
     /// A fresh packet is settled: what becomes of it is the answer.
     fn settle<D: Desk>(&mut self, desk: &mut D, line: &Line, hold: HoldView) -> Result<(), Memory>
-        requires at { Walking (D.material desk.old) (D.via desk.old) self.old.place line.now (D.shown desk.old) (stand.Judged hold) self.old.answer }
+        requires at { Stands D.shown D.material D.via desk.old line.now self.old (stand.Judged hold) }
         requires fits { Fits line.now.deed }
-        ensures then { OnOk result (Walking (D.material desk.new) (D.via desk.new) self.new.place line.now (D.shown desk.new) self.new.stand self.new.answer) }
-        ensures open { OnOk result (IsOpen self.new.stand (D.shown desk.new).owing) }
-        ensures made { OnOk result (Made (D.does desk.old) (next (D.via desk.old) (D.material desk.new) line.now (D.shown desk.old).events (D.shown desk.old).owing) (D.shown desk.old) (D.shown desk.new) desk.new) }
-        ensures err { OnErr result (D.shown desk.new ≡ D.shown desk.old) }
-        ensures kept { OnErr result (self.new ≡ self.old) }
-        ensures grows { Grows (D.material desk.old) (D.material desk.new) }
-        ensures via { D.via desk.new ≡ D.via desk.old }
-        ensures place { self.new.place ≡ self.old.place }
+        ensures then { OnOk result (GoesOn D.shown D.material D.via desk.new line.now self.new) }
+        ensures made { OnOk result (MadeNext D.shown D.material D.via D.does line.now desk.old desk.new) }
+        ensures err { OnErr result ((D.shown desk.new ≡ D.shown desk.old) × (self.new ≡ self.old)) }
+        ensures stays { Stays D.material D.via desk.old desk.new self.old self.new }
     {
         let Deed::Rx { datagram, .. } = &line.deed else {
             unreachable!();
@@ -382,16 +346,12 @@ impl Walk {
         line: &Line,
         hold: HoldView,
     ) -> Result<(), Memory>
-        requires at { Walking (D.material desk.old) (D.via desk.old) self.old.place line.now (D.shown desk.old) (stand.Looked hold) self.old.answer }
+        requires at { Stands D.shown D.material D.via desk.old line.now self.old (stand.Looked hold) }
         requires fits { Fits line.now.deed }
-        ensures then { OnOk result (Walking (D.material desk.new) (D.via desk.new) self.new.place line.now (D.shown desk.new) self.new.stand self.new.answer) }
-        ensures open { OnOk result (IsOpen self.new.stand (D.shown desk.new).owing) }
-        ensures made { OnOk result (Made (D.does desk.old) (next (D.via desk.old) (D.material desk.new) line.now (D.shown desk.old).events (D.shown desk.old).owing) (D.shown desk.old) (D.shown desk.new) desk.new) }
-        ensures err { OnErr result (D.shown desk.new ≡ D.shown desk.old) }
-        ensures kept { OnErr result (self.new ≡ self.old) }
-        ensures grows { Grows (D.material desk.old) (D.material desk.new) }
-        ensures via { D.via desk.new ≡ D.via desk.old }
-        ensures place { self.new.place ≡ self.old.place }
+        ensures then { OnOk result (GoesOn D.shown D.material D.via desk.new line.now self.new) }
+        ensures made { OnOk result (MadeNext D.shown D.material D.via D.does line.now desk.old desk.new) }
+        ensures err { OnErr result ((D.shown desk.new ≡ D.shown desk.old) × (self.new ≡ self.old)) }
+        ensures stays { Stays D.material D.via desk.old desk.new self.old self.new }
     {
         match &line.deed {
             Deed::Netlink(_) => unreachable!(),
@@ -478,15 +438,27 @@ fn pair_of<D: Desk>(desk: &mut D, key: u32) -> KeyPair
 }
 
 /// Why a packet id isn't taken, where it isn't.
-fn refusal_of(verdict: Verdict) -> Option<DropCause>
+fn refusal_of(verdict: Verdict) -> Option<Refusal>
     ensures { result ≡ refusal verdict }
 {
     match verdict {
         Verdict::Accept => None,
-        Verdict::Zero => Some(DropCause::Zero),
-        Verdict::Old => Some(DropCause::Old),
-        Verdict::Below => Some(DropCause::Below),
-        Verdict::Again => Some(DropCause::Again),
+        Verdict::Zero => Some(Refusal::Zero),
+        Verdict::Old => Some(Refusal::Old),
+        Verdict::Below => Some(Refusal::Below),
+        Verdict::Again => Some(Refusal::Again),
+    }
+}
+
+/// The cause with which a packet is dropped whose id isn't taken.
+fn dropped_as(refusal: Refusal) -> DropCause
+    ensures { result ≡ cause_of refusal }
+{
+    match refusal {
+        Refusal::Zero => DropCause::Zero,
+        Refusal::Old => DropCause::Old,
+        Refusal::Below => DropCause::Below,
+        Refusal::Again => DropCause::Again,
     }
 }
 

@@ -17,7 +17,7 @@ use Rattle.ov_model.specs.declared.answer.Answer.{Answer}
 use Rattle.ov_model.specs.Tables.{Material}
 use Rattle.ov_model.specs.Packets.{packet_id_of}
 use Rattle.ov_model.specs.Events.{Step, Judgement, releases}
-use Rattle.ov_model.specs.Path.{Path, Row, AtOnce, Commanded, Missed, Held, hold_owed, tx_steps, rx_steps, use_steps, rx_judgements, use_judgements, packet_in, row_steps, row_judgements}
+use Rattle.ov_model.specs.Path.{Path, Row, AtOnce, Commanded, Missed, Held, hold_owed, tx_steps, rx_steps, use_steps, refused_as, rx_judgements, use_judgements, packet_in, row_steps, row_judgements}
 use Rattle.ov_model.proofs.Lanes.{all_append}
 
 -- ---- the steps
@@ -76,7 +76,7 @@ rx_judged : (place : Place) (at : ℕ) (h : HoldView) (bytes : List ℕ) (u : Us
 rx_judged place at h bytes (used.Sealed n) = inl refl
 rx_judged place at h bytes (used.Spent killed) = inl refl
 rx_judged place at h bytes used.BadTag = inl refl
-rx_judged place at h bytes (used.Refused v) = inr (record { judgement = record { place = place; key = h.key; id = packet_id_of bytes; at = at; verdict = v }; is = refl; at = refl })
+rx_judged place at h bytes (used.Refused x) = inr (record { judgement = record { place = place; key = h.key; id = packet_id_of bytes; at = at; verdict = refused_as x }; is = refl; at = refl })
 rx_judged place at h bytes (used.Settled s) = inr (record { judgement = record { place = place; key = h.key; id = packet_id_of bytes; at = at; verdict = verdict.Accept }; is = refl; at = refl })
 
 use_judged : (place : Place) (at : ℕ) (d : Deed) (h : HoldView) (u : Use) → MostOneAt place (use_judgements place at d h u)

@@ -1,12 +1,11 @@
 // A second desk, over plain lists: one peer, one key, and the events of its line as they came.
 
-ghost use Rattle.std.specs.Prelude.{◌≡◌, ◌<◌, ◌++◌, None, [], IfOk, vec_len};
+ghost use Rattle.std.specs.Prelude.{◌≡◌, ◌<◌, ◌++◌, [], IfOk, vec_len};
 ghost use Rattle.std.specs.Vec.{vec_capacity};
-ghost use Rattle.ov_model.specs.declared.hold.Given.TheVariants.{Last};
-ghost use Rattle.ov_path.specs.Desks.{NoHold, held_after, look_holds, peer_left, owed_if, IsReplyOf, HasMaterial};
+ghost use Rattle.ov_path.specs.Desks.{NoHold, held_after, owed_if, IsReplyOf, HasMaterial};
 ghost use Rattle.ov_path.specs.Plain.{Joined, one_key, listed, shown_of};
 
-use super::told::{Past, Told};
+use super::told::{Kind, Past, Told};
 use crate::desk::Desk;
 use ov_base::{Addr, ListOf, Memory};
 use ov_keys::KeyPair;
@@ -46,36 +45,15 @@ impl Hold {
         }
     }
 
-    /// A step that found a peer and its key holds them.
+    /// A look-up that found a peer and its key holds them.
     fn step(&mut self, act: &Act, reply: &Reply)
         ensures { self.new ≡ held_after self.old act.now reply.now }
     {
-        match act {
-            Act::TxLook(_) => self.look(reply),
-            Act::RxLook { .. } => self.look(reply),
-            Act::Do(_) => {}
-            Act::Sent { .. } => {}
-            Act::Settle { .. } => {}
-            Act::Spend { .. } => {}
-            Act::Released(_) => {}
-            Act::KeyReleased(_) => {}
-        }
-    }
-
-    fn look(&mut self, reply: &Reply)
-        ensures { self.new ≡ look_holds self.old reply.now }
-    {
-        if let Reply::Hold(view) = reply {
-            self.view = Some(*view);
-            self.left = false;
-        }
-    }
-
-    /// The key is given back.
-    fn leave(&mut self)
-        ensures { self.new ≡ peer_left self.old }
-    {
-        self.left = true;
+        let (Act::TxLook(_) | Act::RxLook { .. }, Reply::Hold(view)) = (act, reply) else {
+            return;
+        };
+        self.view = Some(*view);
+        self.left = false;
     }
 }
 
@@ -157,13 +135,19 @@ impl Plain {
         self.past.items()
     }
 
-    /// Takes one step of the table, whose reply fits it.
+    /// Takes one step of the table, whose reply fits it. A removal has the one peer's serial, and every other
+    /// command is done.
     fn decide(&self, act: &Act) -> Result<Reply, Memory>
         ensures fits { IfOk result (λ r. IsReplyOf act.now r) }
         ensures has { IfOk result (λ r. HasMaterial (one_key self.now.pair) act.now r) }
     {
         match act {
-            Act::Do(command) => self.command(command),
+            Act::Do(Command::Remove(_, _)) => {
+                let mut serials = Vec::new(self.alloc);
+                serials.push(self.peer.peer)?;
+                Ok(Reply::Removed(ListOf::of_vec(serials)))
+            }
+            Act::Do(_) => Ok(Reply::Done),
             Act::TxLook(addr) => {
                 if addr.is(self.vpn) {
                     return Ok(Reply::Hold(self.peer));
@@ -185,16 +169,6 @@ impl Plain {
             Act::Released(peer) => Ok(Reply::Released(*peer)),
             Act::KeyReleased(key) => Ok(Reply::KeyReleased(*key)),
         }
-    }
-
-    /// A removal has the one peer's serial, and every other command is done.
-    fn command(&self, command: &Command) -> Result<Reply, Memory> {
-        if let Command::Remove(_, _) = command {
-            let mut serials = Vec::new(self.alloc);
-            serials.push(self.peer.peer)?;
-            return Ok(Reply::Removed(ListOf::of_vec(serials)));
-        }
-        Ok(Reply::Done)
     }
 
     fn settled(&self, kind: InnerKind) -> Settled {
@@ -243,32 +217,44 @@ impl Desk for Plain {
         self.past.reserve(MOST_EVENTS)?;
         self.drew = false;
         let verdict = judge(&mut self.accepted, id);
-        self.past.push(Told::judged(place, key, id, at, verdict));
+        self.past.push(Told {
+            kind: Kind::Replay {
+                place,
+                key,
+                id,
+                at,
+                verdict,
+            },
+        });
         Ok(verdict)
     }
 
     fn draw(&mut self, key: u32) -> Drawn {
         let drawn = count(&mut self.next);
         self.drew = true;
-        self.past.push(Told::drew(key, drawn));
+        self.past.push(Told {
+            kind: Kind::Draw(key, drawn),
+        });
         drawn
     }
 
     fn give_back_key(&mut self, key: u32) -> Given {
-        let given = given(self.last, self.owing);
-        self.owing = owed_after(given, self.owing, Owed::Key(key));
-        self.hold.leave();
+        let given = give(&mut self.owing, self.last, Owed::Key(key));
+        self.hold.left = true;
         self.drew = false;
-        self.past.push(Told::gave_key(key, given));
+        self.past.push(Told {
+            kind: Kind::KeyBack(key, given),
+        });
         given
     }
 
     fn give_back(&mut self, peer: u32) -> Given {
-        let given = given(self.last, self.owing);
-        self.owing = owed_after(given, self.owing, Owed::Peer(peer));
+        let given = give(&mut self.owing, self.last, Owed::Peer(peer));
         self.hold = Hold::none();
         self.drew = false;
-        self.past.push(Told::gave_peer(peer, given));
+        self.past.push(Told {
+            kind: Kind::PeerBack(peer, given),
+        });
         given
     }
 
@@ -357,23 +343,13 @@ fn count(next: &mut u64) -> Drawn {
     Drawn::Id(id)
 }
 
-/// What a give-back answers: at most one release is owed at a time.
-fn given(last: bool, owing: Option<Owed>) -> Given
-    ensures { result ≡ Last → owing ≡ None }
+/// What a give-back answers, with its release owed where it was the last: at most one is owed at a time.
+fn give(owing: &mut Option<Owed>, last: bool, owed: Owed) -> Given
+    ensures { listed owing.new ≡ listed owing.old ++ owed_if result owed }
 {
     if owing.is_none() && last {
+        *owing = Some(owed);
         return Given::Last;
     }
     Given::More
-}
-
-/// What is owed after a give-back.
-fn owed_after(given: Given, owing: Option<Owed>, owed: Owed) -> Option<Owed>
-    requires { given ≡ Last → owing ≡ None }
-    ensures { listed result ≡ listed owing ++ owed_if given owed }
-{
-    match given {
-        Given::Last => Some(owed),
-        Given::More => owing,
-    }
 }

@@ -1,7 +1,7 @@
 // The events of a line as the plain desk stores them.
 
-ghost use Rattle.std.specs.Prelude.{◌≡◌, ◌≤◌, ◌<◌, ◌+◌, ◌++◌, ◌∷◌, [], OnOk, OnErr};
-ghost use Rattle.ov_model.specs.Events.{Stepped, Judged, Drew, GaveKey, GavePeer, release_of};
+ghost use Rattle.std.specs.Prelude.{◌≡◌, ◌<◌, ◌+◌, ◌++◌, ◌∷◌, [], OnOk, OnErr};
+ghost use Rattle.ov_model.specs.Events.{Stepped, release_of};
 ghost use Rattle.ov_path.specs.Desks.{stepped_as};
 ghost use Rattle.ov_path.specs.Plain.{taken_by};
 
@@ -69,48 +69,6 @@ impl Told {
                 let act = Act::KeyReleased(key);
                 Told::stepped(place, &Call { at, act }, Reply::KeyReleased(key))
             }
-        }
-    }
-
-    /// A replay step.
-    pub fn judged(place: Place, key: u32, id: u32, at: u32, verdict: Verdict) -> Told
-        ensures { result ≡ Judged (record { place = place; key = key; id = id; at = at; verdict = verdict }) }
-    {
-        Told {
-            kind: Kind::Replay {
-                place,
-                key,
-                id,
-                at,
-                verdict,
-            },
-        }
-    }
-
-    /// A draw of a packet id.
-    pub fn drew(key: u32, drawn: Drawn) -> Told
-        ensures { result ≡ Drew key drawn }
-    {
-        Told {
-            kind: Kind::Draw(key, drawn),
-        }
-    }
-
-    /// A give-back of the key.
-    pub fn gave_key(key: u32, given: Given) -> Told
-        ensures { result ≡ GaveKey key given }
-    {
-        Told {
-            kind: Kind::KeyBack(key, given),
-        }
-    }
-
-    /// A give-back of the peer.
-    pub fn gave_peer(peer: u32, given: Given) -> Told
-        ensures { result ≡ GavePeer peer given }
-    {
-        Told {
-            kind: Kind::PeerBack(peer, given),
         }
     }
 }

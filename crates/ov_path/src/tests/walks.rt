@@ -18,7 +18,7 @@ use std::process::Abort;
 use std::test::Fail;
 
 /// An event by its kind, and what tells one of a kind from another.
-#[derive(Clone, Copy, Debug, PartialEq, Eq)]
+#[derive(Debug, Drop, PartialEq, Eq)]
 enum Seen {
     Do,
     TxLook(Addr),
@@ -36,24 +36,20 @@ enum Seen {
 
 fn as_seen(told: &Told) -> Seen {
     match &told.kind {
-        Kind::Step(entry) => stepped(&entry.call.act),
+        Kind::Step(entry) => match &entry.call.act {
+            Act::Do(_) => Seen::Do,
+            Act::TxLook(addr) => Seen::TxLook(*addr),
+            Act::RxLook { .. } => Seen::RxLook,
+            Act::Sent { .. } => Seen::Sent,
+            Act::Settle { .. } => Seen::Settle,
+            Act::Spend { .. } => Seen::Spend,
+            Act::Released(peer) => Seen::Released(*peer),
+            Act::KeyReleased(key) => Seen::KeyReleased(*key),
+        },
         Kind::Replay { id, verdict, .. } => Seen::Replay(*id, *verdict),
         Kind::Draw(_, drawn) => Seen::Draw(*drawn),
         Kind::KeyBack(_, given) => Seen::Key(*given),
         Kind::PeerBack(_, given) => Seen::Peer(*given),
-    }
-}
-
-fn stepped(act: &Act) -> Seen {
-    match act {
-        Act::Do(_) => Seen::Do,
-        Act::TxLook(addr) => Seen::TxLook(*addr),
-        Act::RxLook { .. } => Seen::RxLook,
-        Act::Sent { .. } => Seen::Sent,
-        Act::Settle { .. } => Seen::Settle,
-        Act::Spend { .. } => Seen::Spend,
-        Act::Released(peer) => Seen::Released(*peer),
-        Act::KeyReleased(key) => Seen::KeyReleased(*key),
     }
 }
 
