@@ -1,6 +1,6 @@
 use crate::{
-    Addr, Got, ListOf, Memory, MemorySink, MemorySource, Octets, ReadSource, Sink, Source, SteadySink,
-    SteadySource, Took, Transport, WriteFault, WriteSink, write_all,
+    Addr, Got, ListOf, Memory, MemorySink, MemorySource, Octets, ReadSource, Sink, Source,
+    SteadySink, SteadySource, Took, Transport, WriteFault, WriteSink, write_all,
 };
 use std::alloc::Global;
 use std::io;

@@ -36,7 +36,7 @@ cut_at_place bs i within before here =
 -- Bytes behind others are cut as those and what follows the last end of the others are.
 on_step : (b : ℕ) (t : Bool) (ended : List (List ℕ)) (rest behind : List ℕ) → (b == 10) ≡ t
     → (if t then line_first [] (record { ended = ended ++ (cut (rest ++ behind)).ended; rest = (cut (rest ++ behind)).rest }) else byte_first b (ended ++ (cut (rest ++ behind)).ended) (cut (rest ++ behind)).rest)
-        ≡ (let c : Cut = if t then record { ended = [] ∷ ended; rest = rest } else byte_first b ended rest in record { ended = c.ended ++ (cut (c.rest ++ behind)).ended; rest = (cut (c.rest ++ behind)).rest })
+    ≡ (let c : Cut = if t then record { ended = [] ∷ ended; rest = rest } else byte_first b ended rest in record { ended = c.ended ++ (cut (c.rest ++ behind)).ended; rest = (cut (c.rest ++ behind)).rest })
 on_step b true ended rest behind e = refl
 on_step b false [] rest behind e = sym (cut_step b (rest ++ behind) false e)
 on_step b false (line ∷ others) rest behind e = refl
@@ -51,7 +51,7 @@ cut_on (b ∷ bs) behind =
 -- Bytes without a line end behind others end no line more.
 held_step : (b : ℕ) (t : Bool) (ended : List (List ℕ)) (rest behind : List ℕ)
     → (if t then line_first [] (record { ended = ended; rest = rest ++ behind }) else byte_first b ended (rest ++ behind))
-        ≡ (let c : Cut = if t then record { ended = [] ∷ ended; rest = rest } else byte_first b ended rest in record { ended = c.ended; rest = c.rest ++ behind })
+    ≡ (let c : Cut = if t then record { ended = [] ∷ ended; rest = rest } else byte_first b ended rest in record { ended = c.ended; rest = c.rest ++ behind })
 held_step b true ended rest behind = refl
 held_step b false [] rest behind = refl
 held_step b false (line ∷ others) rest behind = refl

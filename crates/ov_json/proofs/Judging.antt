@@ -1,5 +1,5 @@
 -- From the lines that were read to what the whole stream shows.
-use Rattle.std.proofs.Common.{◌≡◌, ◌∙◌, ℕ, ◌+◌, ◌<◌, ◌≤◌, ◌⊎◌, inl, inr, Bool, true, false, if◌then◌else◌, nat_le, List, [], ◌∷◌, ◌++◌, length, take, refl, sym, ap, subst, append_assoc, append-nil, arith, Ok, Err, Result, Option, Some}
+use Rattle.std.proofs.Common.{◌≡◌, ◌∙◌, ℕ, ◌+◌, ◌<◌, ◌≤◌, ◌⊎◌, inl, inr, Bool, true, false, if◌then◌else◌, nat_le, List, [], ◌++◌, length, refl, sym, ap, subst, append_assoc, arith, Ok, Err, Result, Option, Some}
 use Rattle.std.proofs.lemmas.List.{take_all, append_cancel_right}
 use Rattle.std.proofs.lemmas.Bool.{leb-true, le-leb}
 use Rattle.std.specs.Prelude.{⊤}
@@ -9,8 +9,7 @@ use Rattle.ov_model.specs.declared.line.Line.{Line}
 use Rattle.ov_json.specs.declared.script.ReadStop.{ReadStop}
 use Rattle.ov_json.specs.declared.script.ReadStop.TheVariants as stop
 use Rattle.ov_json.specs.declared.script.Limit.TheVariants.{Bytes}
-use Rattle.ov_json.specs.Grammar.{Says}
-use Rattle.ov_json.specs.Reading.{most_bytes, cut, last_line, ended_lines, whole_lines, counted_lines, AreLines, AreGood, IsFirstBad, Event, bad_line, passed, Early, Stop, HasNoStop, Gave, stop_of, Counts, IsWhole, Reads, Judges, HasRead}
+use Rattle.ov_json.specs.Reading.{most_bytes, cut, last_line, ended_lines, whole_lines, counted_lines, AreLines, AreGood, IsFirstBad, Event, bad_line, passed, Early, Stop, HasNoStop, Gave, stop_of, Counts, IsWhole, Judges, HasRead}
 use Rattle.ov_json.proofs.Lines.{lines_count, none_bad}
 
 -- A short stream's front is all of it.

@@ -79,7 +79,7 @@ kept_end lanes bytes rest old lines k e =
       λ earlier h.
           let P : List (List ℕ) → Type 0 = λ ps. AreLines lanes (earlier ++ ps) lines in
           subst P (sym all) (k.said earlier h),
-      sym (k.tail ∙ ap (λ (c : Cut). c.rest) e)
+      sym (k.tail ∙ ap (λ (c : Cut). c.rest) e),
     )
 
 -- A rest of some bytes is one line.

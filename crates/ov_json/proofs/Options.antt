@@ -1,5 +1,5 @@
 -- Facts on options and answers that the grammar's parts share.
-use Rattle.std.proofs.Common.{rules, ◌≡◌, Bool, false, Option, None, Some, Result, Ok, Err, subst, sym}
+use Rattle.std.proofs.Common.{rules, ◌≡◌, false, Option, None, Some, Result, Ok, Err, subst, sym}
 use Rattle.std.specs.Option.{is_some}
 use Rattle.std.specs.Prelude.{IsErr, IsErrAnd, IfErr, MatchOption}
 

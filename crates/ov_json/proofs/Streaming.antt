@@ -1,5 +1,5 @@
 -- A stream whose lines are read piece by piece.
-use Rattle.std.proofs.Common.{◌≡◌, ◌∙◌, ℕ, ◌+◌, ◌-◌, ◌<◌, ◌≤◌, inl, inr, min, List, [], ◌∷◌, ◌++◌, length, take, refl, sym, ap, subst, append_assoc, length-append, arith, Option, Some, Result, Ok, Err}
+use Rattle.std.proofs.Common.{◌≡◌, ◌∙◌, ℕ, ◌+◌, ◌<◌, ◌≤◌, inl, inr, min, List, [], ◌∷◌, ◌++◌, length, take, refl, sym, ap, subst, length-append, arith, Option, Ok, Err}
 use Rattle.std.specs.Prelude.{⊤}
 use Rattle.std.specs.Io.KnownBytes.{Consumes, Keeps, IsAtEnd}
 use Rattle.std.proofs.KnownBytes.{Consumes-trans, Consumes-kept}
@@ -9,7 +9,7 @@ use Rattle.std.proofs.Math.Nat.{min-eq_left, min-eq_right, min-le_left}
 use Rattle.std.proofs.Math.Seq.{take-append-add}
 use Rattle.ov_base.specs.Outside.{Rose}
 use Rattle.ov_model.specs.declared.line.Line.{Line}
-use Rattle.ov_json.specs.Reading.{Cut, cut, most_bytes, ended_lines, whole_lines, counted_lines, last_line, AreLines, AreGood, IsFirstBad, IsWhole, Reads, Judges, HasRead, line_stop}
+use Rattle.ov_json.specs.Reading.{Cut, cut, most_bytes, ended_lines, whole_lines, counted_lines, last_line, AreLines, AreGood, IsFirstBad, Reads, Judges, HasRead, line_stop}
 use Rattle.ov_json.specs.Grammar.{Says}
 use Rattle.ov_json.specs.declared.line.LineStop.{LineStop}
 use Rattle.ov_json.specs.declared.line.LineStop.TheVariants as line

@@ -2,7 +2,7 @@
 use Rattle.std.proofs.Common.{◌+◌, ◌++◌, List, ℕ, length, sym, subst}
 use Rattle.ov_model.specs.declared.line.Line.{Line}
 use Rattle.ov_json.specs.Reading as spec
-use Rattle.ov_json.proofs.Lines.{Kept, kept_more, kept_bad, kept_good, kept_end}
+use Rattle.ov_json.proofs.Lines.{Kept, kept_more, kept_bad, kept_good}
 use Rattle.ov_json.proofs.pieces.read_ended.Goals as goal
 
 pub returns-in-Err-clause-bad : goal.returns-in-Err-clause-bad

@@ -1,5 +1,5 @@
 -- What a piece ends is read, and what it doesn't end is kept.
-use Rattle.std.proofs.Common.{◌≡◌, ◌∙◌, ◌+◌, ℕ, List, length, sym}
+use Rattle.std.proofs.Common.{◌∙◌, ◌+◌, length}
 use Rattle.ov_json.specs.Reading as spec
 use Rattle.ov_json.proofs.Options.{handed_on, none_of}
 use Rattle.ov_json.proofs.Streaming.{piece_held, good_before, of_piece, rest_on}
@@ -17,22 +17,22 @@ returns-then-is_none-clause-good c = λ before r. good_before c.args.lanes befor
 pub returns-in_err-behind-clause-bad : goal.returns-in_err-behind-clause-bad
 returns-in_err-behind-clause-bad c = handed_on _ _ _ c.from_residual-in_err-behind.ensures (λ is before r.
     of_piece (λ ps. spec.IsFirstBad c.args.lanes ps (length c.read_ended.new.lines.items + 1)) c.args.lanes before c.args.piece.now c.args.lines.now.items c.args.rest.now.items c.as_slice.result.now r
-        (c.as_slice.ensures.value ∙ c.in_ok-extend_from_slice.ensures.items) (c.in_err-behind.ensures.bad is))
+    (c.as_slice.ensures.value ∙ c.in_ok-extend_from_slice.ensures.items) (c.in_err-behind.ensures.bad is))
 
 pub returns-in_err-behind-clause-good : goal.returns-in_err-behind-clause-good
 returns-in_err-behind-clause-good c = λ before r.
     of_piece (λ ps. spec.AreGood c.args.lanes ps (length c.read_ended.new.lines.items)) c.args.lanes before c.args.piece.now c.args.lines.now.items c.args.rest.now.items c.as_slice.result.now r
-        (c.as_slice.ensures.value ∙ c.in_ok-extend_from_slice.ensures.items) c.read_ended.ensures.good
+    (c.as_slice.ensures.value ∙ c.in_ok-extend_from_slice.ensures.items) c.read_ended.ensures.good
 
 pub returns-in_err-rest-clause-good : goal.returns-in_err-rest-clause-good
 returns-in_err-rest-clause-good c = λ before r.
     of_piece (λ ps. spec.AreGood c.args.lanes ps (length c.read_ended.new.lines.items)) c.args.lanes before c.args.piece.now c.args.lines.now.items c.args.rest.now.items c.as_slice.result.now r
-        (c.as_slice.ensures.value ∙ c.in_ok-extend_from_slice.ensures.items) c.read_ended.ensures.good
+    (c.as_slice.ensures.value ∙ c.in_ok-extend_from_slice.ensures.items) c.read_ended.ensures.good
 
 pub returns-clause-good : goal.returns-clause-good
 returns-clause-good c = λ before r.
     of_piece (λ ps. spec.AreGood c.args.lanes ps (length c.read_ended.new.lines.items)) c.args.lanes before c.args.piece.now c.args.lines.now.items c.args.rest.now.items c.as_slice.result.now r
-        (c.as_slice.ensures.value ∙ c.in_ok-extend_from_slice.ensures.items) c.read_ended.ensures.good
+    (c.as_slice.ensures.value ∙ c.in_ok-extend_from_slice.ensures.items) c.read_ended.ensures.good
 
 pub returns-clause-ok : goal.returns-clause-ok
 returns-clause-ok c = λ before r.

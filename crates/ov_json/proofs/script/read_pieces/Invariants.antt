@@ -1,5 +1,5 @@
 -- What came is read, and what may still come is counted.
-use Rattle.std.proofs.Common.{◌<◌, ◌≤◌, length}
+use Rattle.std.proofs.Common.{◌≤◌}
 use Rattle.ov_json.proofs.Streaming.{Seen}
 use Rattle.ov_json.proofs.script.read_pieces.Given as goal
 

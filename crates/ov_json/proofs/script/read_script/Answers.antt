@@ -1,6 +1,6 @@
 -- What the lines show of the bytes that were read holds of those that the source tells it gave.
 use Rattle.std.proofs.Common.{◌≡◌, length, rules}
-use Rattle.ov_json.proofs.Judging.{stops_known, rose_known, no_stop_known, not_early_known, counts_known, good_known, whole_known}
+use Rattle.ov_json.proofs.Judging.{stops_known, rose_known, no_stop_known, not_early_known, counts_known, good_known}
 use Rattle.ov_json.proofs.Stopping.{early_stops, told_early, told_stop}
 use Rattle.ov_json.proofs.Fitting.{lines_fit}
 use Rattle.ov_json.specs.Reading.{whole_lines}

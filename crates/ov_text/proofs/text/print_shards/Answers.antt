@@ -3,7 +3,6 @@ use Rattle.std.proofs.Common.{ℕ, ◌+◌, ◌∙◌, ap, arith}
 use Rattle.std.proofs.lemmas.List.{take_all}
 use Rattle.ov_json.specs.Summary.{replays_text}
 use Rattle.ov_json.proofs.Options.{handed_on}
-
 use Rattle.ov_text.proofs.Texts.{passed_more, stopped_at, shards_are, replays_are}
 use Rattle.ov_text.proofs.text.print_shards.Goals as goal
 
