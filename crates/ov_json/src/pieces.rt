@@ -1,4 +1,4 @@
-//! The lines of bytes, cut at each line end and read in order without a copy.
+//! The lines of a stream's pieces, cut at each line end and read in order.
 
 ghost use Rattle.std.specs.Prelude.{◌≡◌, ◌+◌, ◌<◌, ◌++◌, ◌∷◌, [], ℕ, List, length, IfOk, IfErr, IfSome, OnOk, OnErr, MatchOption};
 ghost use Rattle.ov_model.specs.declared.line.Line.{Line};
