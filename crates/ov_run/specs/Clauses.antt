@@ -1,9 +1,9 @@
 -- What the program promises of one run. A clause on the bytes that were read, or on the script that they
 -- are, holds where the source tells what it holds; one on the bytes that were written, where the sink does.
-use Rattle.std.specs.Prelude.{None, ℕ, ◌+◌, ◌≡◌, ◌⊎◌, List, [], ◌∷◌, length, map, codes, Option, Some, String, string_bytes, ⊤}
+use Rattle.std.specs.Prelude.{None, ℕ, ◌+◌, ◌<◌, ◌≡◌, ◌⊎◌, List, [], ◌∷◌, length, map, codes, Option, Some, String, string_bytes, ⊤}
 use Rattle.std.specs.List.{AllByRecursion}
 use Rattle.std.specs.declared.alloc.Global.{Global}
-use Rattle.std.specs.Io.KnownBytes.{Appends}
+use Rattle.std.specs.Io.KnownBytes.{Appends, Keeps}
 use Rattle.ov_base.specs.Outside.{Rose}
 use Rattle.ov_base.specs.Loops.{AppendsPart}
 use Rattle.ov_model.specs.declared.line.Script.{Script}
@@ -16,6 +16,7 @@ use Rattle.ov_json.specs.Reading.{Gave, IsScript, HasNoStop, Early, Stop, Event,
 use Rattle.ov_json.specs.declared.script.ReadStop.{ReadStop}
 use Rattle.ov_json.specs.declared.script.ReadStop.TheVariants as stop
 use Rattle.ov_json.specs.Summary.{report_text}
+use Rattle.ov_text.specs.Printing.{full_page}
 use Rattle.ov_run.specs.declared.ended.Cause.{Cause}
 use Rattle.ov_run.specs.declared.ended.Cause.TheVariants as cause
 use Rattle.ov_run.specs.declared.ended.Ended.{Ended}
@@ -96,10 +97,10 @@ abbrev pub ComesFrom : Option (List ℕ) → Option (List ℕ) → Event → Typ
 ComesFrom before now event = (taken : List ℕ) → Gave before now taken → Early taken 1 event ⊎ ((now ≡ Some []) × Stop taken 1 event)
 
 -- What was written where memory was wanting: nothing before there was a report, and then a part of its
--- text, from the front and not to the end.
+-- text, from the front and not to the end, which is nothing of a text that fills no page.
 abbrev pub WroteNoMore : Option (List ℕ) → Option (List ℕ) → Option Report → Type 0
 WroteNoMore old new None = new ≡ old
-WroteNoMore old new (Some report) = AppendsPart old new (report_text report)
+WroteNoMore old new (Some report) = AppendsPart old new (report_text report) × (length (report_text report) < full_page → Keeps old new)
 
 -- What a run that read its script whole ended with: all of the report's text was written, or a part of it
 -- where a write failed or memory was wanting, or nothing where there was no memory for the report.

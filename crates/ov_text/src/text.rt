@@ -1,11 +1,11 @@
 //! The lines of a report in their order.
 
-ghost use Rattle.std.specs.Prelude.{◌≡◌, ◌≤◌, length, Err, IfErr, OnOk, OnErr};
-ghost use Rattle.std.specs.Io.KnownBytes.{Appends};
+ghost use Rattle.std.specs.Prelude.{◌≡◌, ◌<◌, ◌≤◌, length, Err, IfErr, OnOk, OnErr};
+ghost use Rattle.std.specs.Io.KnownBytes.{Appends, Keeps};
 ghost use Rattle.ov_base.specs.Outside.{Rose};
 ghost use Rattle.ov_base.specs.Loops.{AppendsPart};
 ghost use Rattle.ov_json.specs.Summary as spec;
-ghost use Rattle.ov_text.specs.Printing.{Passed, Stopped};
+ghost use Rattle.ov_text.specs.Printing.{Passed, Stopped, full_page};
 
 use crate::listed::print_list;
 use crate::page::{PrintStop, flush, put};
@@ -76,13 +76,15 @@ fn print_lines<K: Sink>(
 /// is in memory at a time, and one line more.
 ///
 /// `Write` comes where a write failed, and `Memory` where a line, the page or the summary found no memory.
-/// With either, the text is written in part, from its front, and not to its end.
+/// With either, the text is written in part, from its front, and not to its end; and at `Memory` nothing is
+/// written of a text that fills no page.
 pub fn print_report<K: Sink>(alloc: Global, report: &Report, sink: &mut K) -> Result<(), PrintStop>
     requires lane { length report.now.lanes ≡ 1 }
     requires shards { length report.now.shards ≡ 8 }
     ensures whole { OnOk result (Appends (K.written sink.old) (K.written sink.new) (spec.report_text report.now)) }
     ensures part { OnErr result (AppendsPart (K.written sink.old) (K.written sink.new) (spec.report_text report.now)) }
     ensures failed { result ≡ Err PrintStop.Write → Rose (K.faults sink.old) (K.faults sink.new) }
+    ensures short { IfErr result (λ why. why ≡ PrintStop.Memory → length (spec.report_text report.now) < full_page → Keeps (K.written sink.old) (K.written sink.new)) }
     ensures later { K.faults sink.old ≤ K.faults sink.new }
 {
     let mut page = Vec::new(alloc);
