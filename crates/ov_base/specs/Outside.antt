@@ -1,6 +1,6 @@
 -- What one read of a source and one write of a sink may answer, by the cases of the answer.
 -- Consumes, Appends, Keeps and IsAtEnd are std's words on bytes that are told or not.
-use Rattle.std.specs.Prelude.{ℕ, List, Option, ◌≡◌, ◌+◌, ◌-◌, ◌^◌, ◌≤◌, ⊤, length, min, take}
+use Rattle.std.specs.Prelude.{ℕ, List, Option, ◌≡◌, ◌+◌, ◌-◌, ◌^◌, ◌≤◌, ◌==◌, if◌then◌else◌, Result, Ok, Err, ⊤, length, min, take}
 use Rattle.std.specs.Io.KnownBytes.{Appends, Consumes, IsAtEnd, Keeps}
 use Rattle.ov_base.specs.declared.source.Got.{Got}
 use Rattle.ov_base.specs.declared.source.Got.TheVariants as got
@@ -27,10 +27,11 @@ ReadTakes old new (got.Bytes n) buffer = Consumes old new (take n buffer)
 ReadTakes old new got.End buffer = Keeps old new × IsAtEnd new
 ReadTakes old new got.Failed buffer = Keeps old new
 
--- the count of faults never falls, and a read fails only where it rose
-pub record GotCause (before now : ℕ) (result : Got) : Type 0 where
-  pub later : before ≤ now
-  pub failed : result ≡ got.Failed → Rose before now
+-- the count of faults rose where a read failed, and stands where it didn't: a fault is exactly what was counted
+abbrev pub GotCause : ℕ → ℕ → Got → Type 0
+GotCause before now (got.Bytes n) = now ≡ before
+GotCause before now got.End = now ≡ before
+GotCause before now got.Failed = (before ≤ now) × Rose before now
 
 -- a write took at least one byte, and no more than there were
 abbrev pub TookFits : Took → List ℕ → Type 0
@@ -42,10 +43,20 @@ abbrev pub WriteAdds : Option (List ℕ) → Option (List ℕ) → Took → List
 WriteAdds old new (took.Bytes n) piece = Appends old new (take n piece)
 WriteAdds old new took.Failed piece = Keeps old new
 
--- the count of faults never falls, and a write fails only where it rose
-pub record TookCause (before now : ℕ) (result : Took) : Type 0 where
-  pub later : before ≤ now
-  pub failed : result ≡ took.Failed → Rose before now
+-- the count of faults rose where a write failed, and stands where it didn't
+abbrev pub TookCause : ℕ → ℕ → Took → Type 0
+TookCause before now (took.Bytes n) = now ≡ before
+TookCause before now took.Failed = (before ≤ now) × Rose before now
+
+-- what an answer of a reader of std says: no byte is the end, and each error is a failed read
+abbrev pub got_of_read : {E : Type 0} → Result ℕ E → Got
+got_of_read (Ok n) = if n == 0 then got.End else got.Bytes n
+got_of_read (Err e) = got.Failed
+
+-- what an answer of a writer of std says: a write that takes nothing failed, and so is each error
+abbrev pub took_of_write : {E : Type 0} → Result ℕ E → Took
+took_of_write (Ok n) = if n == 0 then took.Failed else took.Bytes n
+took_of_write (Err e) = took.Failed
 
 -- the count of faults after a read, of a source that counts each failed one
 abbrev pub faults_after_read : ℕ → Got → ℕ

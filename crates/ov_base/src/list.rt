@@ -85,7 +85,8 @@ impl<T> ListOf<T> {
         self.items.is_empty()
     }
 
-    /// Appends `item`. The only refusal is want of memory: it gives the item back and changes nothing.
+    /// Appends `item`, or gives it back and changes nothing. Such a refusal is for want of memory, which no
+    /// clause ties to a cause.
     pub fn push(&mut self, item: T) -> Result<(), T>
         ensures ok { OnOk result (self.new ≡ self.old ++ item ∷ []) }
         ensures err { OnErr result (self.new ≡ self.old) }

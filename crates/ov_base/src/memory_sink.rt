@@ -10,8 +10,9 @@ use crate::sink::{Sink, Took};
 use std::alloc::Global;
 use std::marker::Model;
 
-/// Takes bytes in pieces and keeps them. It fails at the calls whose numbers it was made with, and
-/// where it finds no memory for what it is to keep.
+/// Takes bytes in pieces and keeps them. It fails at the calls whose numbers it was made with. Any other
+/// call may fail too, for want of memory for what it is to keep, which no clause ties to a cause: it
+/// then takes nothing, and its fault is counted like a planned one.
 #[derive(Debug, Drop)]
 pub struct MemorySink {
     written: Vec<u8>,

@@ -1,9 +1,10 @@
 //! A source over a reader of std, as standard input or a file.
 
 ghost use Rattle.std.specs.Prelude.{◌≡◌, ◌<◌, length};
-ghost use Rattle.ov_base.specs.Outside.{GotFits, ReadTakes, GotCause, faults_after_read};
+ghost use Rattle.ov_base.specs.Outside.{GotFits, ReadTakes, GotCause, faults_after_read, got_of_read};
 
 use crate::source::{Got, Source};
+use std::io;
 use std::io::Read;
 use std::marker::Model;
 
@@ -45,13 +46,23 @@ impl<R: Read> Source for ReadSource<R> {
         ensures cause { GotCause self.old.faults self.new.faults result }
         ensures count { self.new.faults ≡ faults_after_read self.old.faults result }
     {
-        match self.reader.read(buf) {
-            Ok(0) => Got::End,
-            Ok(count) => Got::Bytes(count),
-            Err(_) => {
+        match got_of(self.reader.read(buf)) {
+            Got::Failed => {
                 self.faults = self.faults.saturating_add(1);
                 Got::Failed
             }
+            got => got,
         }
+    }
+}
+
+/// What a reader's answer says: one of no byte is the end, and each error is a failed read.
+fn got_of(answer: io::Result<usize>) -> Got
+    ensures { result ≡ got_of_read answer }
+{
+    match answer {
+        Ok(0) => Got::End,
+        Ok(count) => Got::Bytes(count),
+        Err(_) => Got::Failed,
     }
 }

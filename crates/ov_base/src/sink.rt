@@ -16,8 +16,8 @@ pub enum Took {
 /// A stream of bytes to write, as a file, a pipe or a list in memory.
 ///
 /// `written` is what the sink has taken so far, where it is told: a sink in memory tells it, one
-/// over the system doesn't. `faults` counts its failed writes. It never falls, and stops at the
-/// greatest `u64`.
+/// over the system doesn't. `faults` counts its failed writes and nothing else: it rises where a write
+/// fails, stops at the greatest `u64`, and stands where a write didn't fail.
 pub trait Sink {
     ghost written: { Self → Option (List ℕ) };
 

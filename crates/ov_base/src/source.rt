@@ -19,8 +19,8 @@ pub enum Got {
 /// A stream of bytes to read, as a file, a pipe or a list in memory.
 ///
 /// `left` is what the source will still give, where it is told: a source in memory tells it, one
-/// over the system doesn't. `faults` counts its failed reads. It never falls, and stops at the
-/// greatest `u64`.
+/// over the system doesn't. `faults` counts its failed reads and nothing else: it rises where a read
+/// fails, stops at the greatest `u64`, and stands where a read didn't fail.
 pub trait Source {
     ghost left: { Self → Option (List ℕ) };
 

@@ -1,3 +1,5 @@
+ghost use Rattle.std.specs.Prelude.{◌≡◌, ◌<◌, ◌≤◌, length, IfOk};
+
 use crate::{
     Addr, Got, ListOf, Memory, MemorySink, MemorySource, Octets, ReadSource, Sink, Source,
     SteadySink, SteadySource, Took, Transport, WriteFault, WriteSink, write_all,
@@ -188,5 +190,115 @@ fn an_error_of_std_is_a_fault_and_so_is_a_full_writer(rt: HostRuntime) -> Result
     let mut sink = WriteSink::new(Broken { calls: 2 });
     assert_eq!(rt; write_all(&mut sink, b"yy"), Ok(()));
     assert_eq!(rt; sink.write(b"y"), Took::Failed);
+    Ok(())
+}
+
+/// A reader and a writer whose first call fails and each later one goes through, and which counts what it
+/// is asked. Its flush always fails.
+#[derive(Drop)]
+struct Flaky {
+    error: ErrorKind,
+    calls: u64,
+    flushes: u64,
+    /// The sum of the lengths of the buffers that it was given.
+    asked: usize,
+}
+
+impl Flaky {
+    fn new(error: ErrorKind) -> Flaky {
+        Flaky {
+            error,
+            calls: 0,
+            flushes: 0,
+            asked: 0,
+        }
+    }
+
+    /// Counts a call with a buffer of this length, and answers all of it but at the first call.
+    fn count_call(&mut self, length: usize) -> io::Result<usize>
+        ensures { IfOk result (λ n. n ≡ length) }
+    {
+        self.calls = self.calls.saturating_add(1);
+        self.asked = self.asked.saturating_add(length);
+        if self.calls == 1 {
+            return Err(self.error.into());
+        }
+        Ok(length)
+    }
+}
+
+impl Read for Flaky {
+    fn read(&mut self, buf: &mut [u8]) -> io::Result<usize> {
+        self.count_call(buf.len())
+    }
+}
+
+impl Write for Flaky {
+    fn write(&mut self, buf: &[u8]) -> io::Result<usize> {
+        self.count_call(buf.len())
+    }
+
+    fn flush(&mut self) -> io::Result<()> {
+        self.flushes = self.flushes.saturating_add(1);
+        Err(self.error.into())
+    }
+}
+
+/// Errors that a careless adapter would take for the end, or try again.
+const ERRORS: [ErrorKind; 5] = [
+    ErrorKind::Interrupted,
+    ErrorKind::WouldBlock,
+    ErrorKind::UnexpectedEof,
+    ErrorKind::WriteZero,
+    ErrorKind::Other,
+];
+
+/// A length above that of a page and of a piece of a script. Its clause keeps the number from the proofs.
+fn long() -> usize
+    ensures { (0 < result) × (result ≤ 1000000) }
+{
+    200_000
+}
+
+/// The answers of two reads into a buffer.
+fn two_reads<S: Source>(source: &mut S, buffer: &mut [u8]) -> (Got, Got)
+    requires { 0 < length buffer.old }
+{
+    let first = source.read(buffer);
+    (first, source.read(buffer))
+}
+
+#[test]
+fn each_read_asks_the_reader_once_for_the_whole_buffer(rt: HostRuntime) -> Result<(), Fail> {
+    let length = long();
+    let mut buffer = Vec::from_elem(rt.alloc(), 0, length)?;
+    for error in ERRORS {
+        let mut reader = Flaky::new(error);
+        let mut source = ReadSource::new(&mut reader);
+        let (first, second) = two_reads(&mut source, buffer.as_mut_slice());
+        assert_eq!(rt; first, Got::Failed, "{error:?}");
+        assert_eq!(rt; second, Got::Bytes(length));
+        assert_eq!(rt; (reader.calls, reader.asked), (2, 2 * length));
+    }
+    Ok(())
+}
+
+#[test]
+fn each_write_asks_the_writer_once_for_the_whole_piece(rt: HostRuntime) -> Result<(), Fail> {
+    let length = long();
+    let text = Vec::from_elem(rt.alloc(), b'x', length)?;
+    for error in ERRORS {
+        let mut writer = Flaky::new(error);
+        let mut sink = WriteSink::new(&mut writer);
+        assert_eq!(rt;
+            write_all(&mut sink, text.as_slice()),
+            Err(WriteFault),
+            "{error:?}"
+        );
+        assert_eq!(rt; sink.write(text.as_slice()), Took::Bytes(length));
+        assert_eq!(rt; write_all(&mut sink, b"x"), Ok(()));
+        assert_eq!(rt; (writer.calls, writer.asked), (3, 2 * length + 1));
+        assert_eq!(rt; writer.flushes, 0);
+    }
     Ok(())
 }

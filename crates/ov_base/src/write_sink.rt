@@ -1,9 +1,10 @@
 //! A sink over a writer of std, as standard output or a file.
 
 ghost use Rattle.std.specs.Prelude.{◌≡◌, ◌<◌, length};
-ghost use Rattle.ov_base.specs.Outside.{TookFits, WriteAdds, TookCause, faults_after_write};
+ghost use Rattle.ov_base.specs.Outside.{TookFits, WriteAdds, TookCause, faults_after_write, took_of_write};
 
 use crate::sink::{Sink, Took};
+use std::io;
 use std::io::Write;
 use std::marker::Model;
 
@@ -46,12 +47,23 @@ impl<W: Write> Sink for WriteSink<W> {
         ensures cause { TookCause self.old.faults self.new.faults result }
         ensures count { self.new.faults ≡ faults_after_write self.old.faults result }
     {
-        match self.writer.write(piece) {
-            Ok(count) if count > 0 => Took::Bytes(count),
-            _ => {
+        match took_of(self.writer.write(piece)) {
+            Took::Failed => {
                 self.faults = self.faults.saturating_add(1);
                 Took::Failed
             }
+            took => took,
         }
+    }
+}
+
+/// What a writer's answer says: one that takes nothing is a failed write, and so is each error.
+fn took_of(answer: io::Result<usize>) -> Took
+    ensures { result ≡ took_of_write answer }
+{
+    match answer {
+        Ok(0) => Took::Failed,
+        Ok(count) => Took::Bytes(count),
+        Err(_) => Took::Failed,
     }
 }

@@ -1,6 +1,6 @@
 //! Writing a whole text to a sink.
 
-ghost use Rattle.std.specs.Prelude.{◌≤◌, OnOk, OnErr};
+ghost use Rattle.std.specs.Prelude.{◌≡◌, ◌≤◌, OnOk, OnErr};
 ghost use Rattle.std.specs.Io.KnownBytes.{Appends};
 ghost use Rattle.ov_base.specs.Outside.{Rose};
 ghost use Rattle.ov_base.specs.Loops.{AppendsPart};
@@ -14,11 +14,12 @@ use thiserror::Error;
 pub struct WriteFault;
 
 /// Writes all of `text` to `sink`, in as many calls as the sink takes. The first failed write ends
-/// the writing, and nothing else does.
+/// the writing, and nothing else does: the count of faults stands where all was written.
 pub fn write_all<K: Sink>(sink: &mut K, text: &[u8]) -> Result<(), WriteFault>
     ensures whole { OnOk result (Appends (K.written sink.old) (K.written sink.new) text.now) }
     ensures part { OnErr result (AppendsPart (K.written sink.old) (K.written sink.new) text.now) }
     ensures later { K.faults sink.old ≤ K.faults sink.new }
+    ensures kept { OnOk result (K.faults sink.new ≡ K.faults sink.old) }
     ensures failed { OnErr result (Rose (K.faults sink.old) (K.faults sink.new)) }
 {
     let mut at = 0;

@@ -1,5 +1,5 @@
 -- What one more write took follows, in the text, on what the earlier ones took.
-use Rattle.std.proofs.Common.{arith, ◌≡◌, ℕ, ◌-◌, List, length, take, drop, length-drop}
+use Rattle.std.proofs.Common.{arith, ◌≡◌, ◌∙◌, ℕ, ◌-◌, List, length, take, drop, length-drop}
 use Rattle.std.proofs.KnownBytes.{Appends-trans}
 use Rattle.std.proofs.Math.Seq.{take-add, take-length}
 use Rattle.ov_base.proofs.writing.write_all.Goals as goal
@@ -13,7 +13,7 @@ loop-at-preserved g c =
     let rest = take-drop c.loop-at.at c.args.text.now in
     record {
       written = rw take-add (Appends-trans _ _ _ _ _ c.loop-at.invariant.written (rw rest at c.in-Bytes.ensures.bytes));
-      later = omega (arith, c.in-Bytes.ensures.cause.later);
+      kept = c.in-Bytes.ensures.cause ∙ c.loop-at.invariant.kept;
       within =
           let fits = rw (rest, length-drop) at c.in-Bytes.ensures.fits.1 in
           omega (arith, fits);
