@@ -1,5 +1,5 @@
 -- From the lines that were read to what the whole stream shows.
-use Rattle.std.proofs.Common.{◌≡◌, ◌∙◌, ℕ, ◌+◌, ◌<◌, ◌≤◌, ◌⊎◌, inl, inr, Bool, true, false, if◌then◌else◌, nat_le, List, [], ◌++◌, length, refl, sym, ap, subst, append_assoc, arith, Ok, Err, Result, Option, Some}
+use Rattle.std.proofs.Common.{◌≡◌, ◌∙◌, ℕ, ◌+◌, ◌<◌, ◌≤◌, ◌⊎◌, inl, inr, Bool, true, false, if◌then◌else◌, nat_le, List, [], ◌++◌, length, refl, sym, ap, subst, append_assoc, arith, Ok, Err, Result, Option, None, Some}
 use Rattle.std.proofs.lemmas.List.{take_all, append_cancel_right}
 use Rattle.std.proofs.lemmas.Bool.{leb-true, le-leb}
 use Rattle.std.specs.Prelude.{⊤}
@@ -9,7 +9,7 @@ use Rattle.ov_model.specs.declared.line.Line.{Line}
 use Rattle.ov_json.specs.declared.script.ReadStop.{ReadStop}
 use Rattle.ov_json.specs.declared.script.ReadStop.TheVariants as stop
 use Rattle.ov_json.specs.declared.script.Limit.TheVariants.{Bytes}
-use Rattle.ov_json.specs.Reading.{most_bytes, cut, last_line, ended_lines, whole_lines, counted_lines, AreLines, AreGood, IsFirstBad, Event, bad_line, passed, Early, Stop, HasNoStop, Gave, stop_of, Counts, IsWhole, Judges, HasRead}
+use Rattle.ov_json.specs.Reading.{most_bytes, cut, last_line, ended_lines, whole_lines, counted_lines, AreLines, AreGood, IsFirstBad, Event, bad_line, passed, Early, Stop, HasNoStop, Gave, GaveSome, stop_of, Counts, IsWhole, Judges, HasRead}
 use Rattle.ov_json.proofs.Lines.{lines_count, none_bad}
 
 -- A short stream's front is all of it.
@@ -61,6 +61,12 @@ gave_these before now read taken consumed g =
     let Q : Option (List ℕ) → Type 0 = λ n. Consumes (Some (taken ++ g.left)) n read in
     let same : taken ++ g.left ≡ read ++ g.left = subst Q g.has (subst P g.had consumed) in
     append_cancel_right read taken g.left (sym same)
+
+-- A source that tells what it has left tells what it gave.
+pub gave_some : (before now : Option (List ℕ)) (bytes : List ℕ) → Consumes before now bytes → GaveSome before now
+gave_some None now bytes consumed = tt
+gave_some (Some held) None bytes consumed = absurd consumed
+gave_some (Some held) (Some left) bytes consumed = (bytes, record { left = left; had = ap Some consumed; has = refl })
 
 -- A source that tells what it has left and is at its end has nothing left.
 pub at_end : (before now : Option (List ℕ)) (taken : List ℕ) → IsAtEnd now → Gave before now taken → now ≡ Some []

@@ -1,5 +1,5 @@
 -- The script of a stream of bytes, or the first event at which the stream stops being one.
-use Rattle.std.specs.Prelude.{◌≡◌, ℕ, ◌+◌, ◌<◌, ◌≤◌, ◌==◌, ◌⊎◌, List, [], ◌∷◌, ◌++◌, length, take, if◌then◌else◌, nat_le, Option, Some, Result, Ok, Err, ⊤}
+use Rattle.std.specs.Prelude.{◌≡◌, ℕ, ◌+◌, ◌<◌, ◌≤◌, ◌==◌, ◌⊎◌, List, [], ◌∷◌, ◌++◌, length, take, if◌then◌else◌, nat_le, Option, None, Some, Result, Ok, Err, ⊤}
 use Rattle.std.specs.Io.KnownBytes.{Consumes, IsAtEnd}
 use Rattle.ov_base.specs.Outside.{Rose}
 use Rattle.ov_model.specs.declared.line.Line.{Line}
@@ -15,6 +15,10 @@ use Rattle.ov_json.specs.Grammar.{Says}
 -- The most bytes that a script has.
 unfoldable pub most_bytes : ℕ
 most_bytes = 67108864
+
+-- The most bytes of one piece, which is what one read asks for.
+unfoldable pub most_piece : ℕ
+most_piece = 65536
 
 -- Bytes cut at each line end, the byte 0x0a: the lines that were ended, without their ends, and what
 -- follows the last end.
@@ -114,6 +118,11 @@ pub record Gave (before now : Option (List ℕ)) (bytes : List ℕ) : Type 0 whe
   pub left : List ℕ
   pub had : before ≡ Some (bytes ++ left)
   pub has : now ≡ Some left
+
+-- A source that tells what it has left tells what it gave: some bytes from the front, and all others are left.
+abbrev pub GaveSome : Option (List ℕ) → Option (List ℕ) → Type 0
+GaveSome None now = ⊤
+GaveSome (Some held) now = (taken : List ℕ) × Gave (Some held) now taken
 
 -- How an event is answered.
 abbrev pub stop_of : Event → ReadStop

@@ -1,7 +1,8 @@
 //! The script of a source: its bytes, read piece by piece, cut into lines, each read once.
 
-ghost use Rattle.std.specs.Prelude.{◌≡◌, ◌<◌, ◌≤◌, ◌⊎◌, ℕ, List, [], Some, length, IfOk, IfErr, OnOk};
+ghost use Rattle.std.specs.Prelude.{◌≡◌, ◌≢◌, ◌<◌, ◌≤◌, ◌⊎◌, ℕ, List, [], Some, length, IfOk, IfErr, OnOk};
 ghost use Rattle.std.specs.List.{AllByRecursion};
+ghost use Rattle.std.specs.Io.KnownBytes.{IsAtEnd};
 ghost use Rattle.ov_base.specs.Outside.{Rose};
 ghost use Rattle.ov_model.specs.Sizes.{Fits};
 ghost use Rattle.ov_json.specs.Reading as spec;
@@ -10,7 +11,7 @@ use crate::line::LineStop;
 use crate::pieces::{read_last, read_piece};
 use ov_base::{Got, ListOf, Source};
 use ov_model::{Line, Script};
-use std::alloc::Global;
+use std::alloc::{AllocError, Global};
 use thiserror::Error;
 
 /// The most bytes that a script has.
@@ -55,7 +56,8 @@ pub struct Reading {
 /// Reads `source` piece by piece, to its end or to the piece in which it gives more than `MOST_BYTES` bytes,
 /// and its lines in order, each once, on `lanes` lanes, before the next piece. A line outside the grammar is
 /// `Bad`, and comes before `Limit` and `Read` where it was ended; `Limit` comes where there are too many
-/// bytes; `Read` only where a read failed. Want of memory alone is free.
+/// bytes; `Read` only where a read failed, and with every other answer none did. Want of memory alone is
+/// free. A source that tells what it has left tells what it gave, and a script comes only from its end.
 pub fn read_script<S: Source>(alloc: Global, source: &mut S, lanes: u32) -> Reading
     ensures script { IfOk result.outcome (λ script. (taken : List ℕ) → spec.Gave (S.left source.old) (S.left source.new) taken
         → (S.left source.new ≡ Some []) × spec.IsScript taken lanes script) }
@@ -75,7 +77,11 @@ pub fn read_script<S: Source>(alloc: Global, source: &mut S, lanes: u32) -> Read
         → spec.Counts taken result.outcome result.good }
     ensures good { (taken : List ℕ) → spec.Gave (S.left source.old) (S.left source.new) taken
         → spec.AreGood lanes (spec.counted_lines taken) result.good }
+    ensures taken { spec.GaveSome (S.left source.old) (S.left source.new) }
+    ensures ended { OnOk result.outcome (IsAtEnd (S.left source.new)) }
     ensures later { S.faults source.old ≤ S.faults source.new }
+    ensures kept { OnOk result.outcome (S.faults source.new ≡ S.faults source.old) }
+    ensures calm { IfErr result.outcome (λ stop. stop ≢ ReadStop.Read → S.faults source.new ≡ S.faults source.old) }
     ensures fits { IfOk result.outcome (λ script. AllByRecursion (λ line. Fits line.deed) script.lines) }
 {
     let mut lines = Vec::new(alloc);
@@ -103,11 +109,22 @@ fn read_lines<S: Source>(
     requires empty { lines.old.items ≡ [] }
     ensures read { spec.HasRead lanes (S.left source.old) (S.left source.new) (S.faults source.old) (S.faults source.new) lines.new.items result }
     ensures later { S.faults source.old ≤ S.faults source.new }
+    ensures kept { OnOk result (S.faults source.new ≡ S.faults source.old) }
+    ensures calm { IfErr result (λ stop. stop ≢ ReadStop.Read → S.faults source.new ≡ S.faults source.old) }
 {
-    match Vec::from_elem(alloc, 0, PIECE) {
+    match piece_room(alloc) {
         Ok(mut buffer) => read_pieces(alloc, source, lanes, buffer.as_mut_slice(), lines),
         Err(_) => Err(ReadStop::Memory),
     }
+}
+
+/// Room for one piece, whose length its clause names by the definition.
+#[tactic(auto, unfolding(crate::specs::Reading::most_piece))]
+fn piece_room(alloc: Global) -> Result<Vec<u8>, AllocError>
+    ensures piece { IfOk result (λ room. length room.items ≡ spec.most_piece) }
+    ensures some { IfOk result (λ room. 0 < length room.items) }
+{
+    Vec::from_elem(alloc, 0, PIECE)
 }
 
 /// Reads a source piece by piece, and the lines that each piece ends before the next. Besides the lines,
@@ -120,9 +137,12 @@ fn read_pieces<S: Source>(
     lines: &mut Vec<Line>,
 ) -> Result<(), ReadStop>
     requires room { 0 < length buffer.old }
+    requires piece { length buffer.old ≤ spec.most_piece }
     requires empty { lines.old.items ≡ [] }
     ensures read { spec.HasRead lanes (S.left source.old) (S.left source.new) (S.faults source.old) (S.faults source.new) lines.new.items result }
     ensures later { S.faults source.old ≤ S.faults source.new }
+    ensures kept { OnOk result (S.faults source.new ≡ S.faults source.old) }
+    ensures calm { IfErr result (λ stop. stop ≢ ReadStop.Read → S.faults source.new ≡ S.faults source.old) }
 {
     let mut rest = Vec::new(alloc);
     // How many bytes may still come.

@@ -1,5 +1,5 @@
 -- How reading ends: at a line that can't be read, at the limit, at the source's end, or at a failed read.
-use Rattle.std.proofs.Common.{◌∙◌, length, take, ap, refl, arith}
+use Rattle.std.proofs.Common.{◌∙◌, length, take, ap, arith}
 use Rattle.ov_base.specs.Outside.{Rose}
 use Rattle.ov_json.specs.Reading.{line_stop}
 use Rattle.ov_json.proofs.Streaming.{piece_stopped, piece_past, read_whole, last_stopped, read_failed}
@@ -23,5 +23,5 @@ returns-in-End-clause-read g c = read_whole _ _ _ _ _ _ _ _ _ c.pieces.invariant
 
 pub returns-in-Failed-clause-read : goal.returns-in-Failed-clause-read
 returns-in-Failed-clause-read g c =
-    let rose : Rose (g.S.Source.faults c.pieces.source) (g.S.Source.faults c.read.new.self) = c.in-Failed.ensures.cause.failed refl in
-    read_failed _ _ _ _ _ _ _ _ _ c.pieces.invariant.seen c.in-Failed.ensures.bytes (omega (arith, c.pieces.invariant.later, rose))
+    let rose : Rose (g.S.Source.faults c.pieces.source) (g.S.Source.faults c.read.new.self) = c.in-Failed.ensures.cause.1 in
+    read_failed _ _ _ _ _ _ _ _ _ c.pieces.invariant.seen c.in-Failed.ensures.bytes (omega (arith, c.pieces.invariant.kept, rose))

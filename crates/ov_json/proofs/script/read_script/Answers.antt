@@ -1,6 +1,6 @@
 -- What the lines show of the bytes that were read holds of those that the source tells it gave.
 use Rattle.std.proofs.Common.{◌≡◌, length, rules}
-use Rattle.ov_json.proofs.Judging.{stops_known, rose_known, no_stop_known, not_early_known, counts_known, good_known}
+use Rattle.ov_json.proofs.Judging.{gave_some, stops_known, rose_known, no_stop_known, not_early_known, counts_known, good_known}
 use Rattle.ov_json.proofs.Stopping.{early_stops, told_early, told_stop}
 use Rattle.ov_json.proofs.Fitting.{lines_fit}
 use Rattle.ov_json.specs.Reading.{whole_lines}
@@ -42,3 +42,12 @@ returns-clause-told_stop g c = λ calm event taken gave first. absurd (no_stop_k
 
 pub returns-clause-fits : goal.returns-clause-fits
 returns-clause-fits g c = rw c.of_vec.ensures (lines_fit c.args.lanes (whole_lines c.in_default.ensures.read.bytes) c.read_lines.new.lines.items c.in_default.ensures.read.judged.1)
+
+pub returns-in-Err-clause-taken : goal.returns-in-Err-clause-taken
+returns-in-Err-clause-taken g c = gave_some _ _ _ c.in-Err.ensures.read.taken
+
+pub returns-clause-taken : goal.returns-clause-taken
+returns-clause-taken g c = gave_some _ _ _ c.in_default.ensures.read.taken
+
+pub returns-clause-ended : goal.returns-clause-ended
+returns-clause-ended g c = c.in_default.ensures.read.judged.0.0
