@@ -1,0 +1,10 @@
+use Rattle.std.proofs.Common.{◌≡◌, ◌≤◌, take}
+use Rattle.ov_report.specs.Printing.{Passed, texts}
+use Rattle.ov_report.proofs.listed.print_list.Given as goal
+
+abbrev pub invariant-loop-member : goal.invariant-loop-member
+invariant-loop-member g l = record {
+  passed : Passed (g.K.Sink.written l.fn.sink) (g.K.Sink.written l.sink) l.fn.page.items (texts (g.T.Listed.text l.owner) 0 (take l.member-index l.list)) l.page.items;
+  later : g.K.Sink.faults l.fn.sink ≤ g.K.Sink.faults l.sink;
+  number : l.number ≡ l.member-index;
+}
