@@ -1,11 +1,13 @@
 -- The test whether keys differ tells exactly whether they do.
-use Rattle.std.proofs.Common.{◌≡◌, Bool, true, false, ◌&&◌, ◌||◌, List, [], ◌∷◌, refl, sym, true≢false}
-use Rattle.std.specs.Prelude.{not, ◌↔◌}
+use Rattle.std.proofs.Common.{◌≡◌, Bool, true, false, ◌&&◌, ◌||◌, List, [], ◌∷◌, refl, sym, ap, ◌∙◌, true≢false}
+use Rattle.std.specs.Prelude.{not, ◌↔◌, codes, Option, Some}
 use Rattle.std.specs.List.{IsDistinct, AllByRecursion, list_any}
+use Rattle.serde_json.specs.Data.{Data, boolean}
+use Rattle.ov_model.specs.declared.report.Report.{Report}
 use Rattle.ov_model.specs.declared.command.KeyDir.{KeyDir}
 use Rattle.ov_model.specs.declared.entry.Entry.{Entry}
 use Rattle.ov_model.specs.Keys.{KeysDiffer, same_dir, sealing_in}
-use Rattle.ov_report.specs.Summary.{all_differ, keys_differ}
+use Rattle.ov_report.specs.Summary.{all_differ, keys_differ, summary_data, told}
 
 and_left : (a b : Bool) → (a && b) ≡ true → a ≡ true
 and_left true b h = refl
@@ -35,17 +37,31 @@ like_none : (d : KeyDir) (ds : List KeyDir) → AllByRecursion (λ e. same_dir d
 like_none d [] h = refl
 like_none d (e ∷ ds) h = rw (h.0, like_none d ds h.1) refl
 
-told : (ds : List KeyDir) → all_differ ds ≡ true → IsDistinct same_dir ds
+test_shows : (ds : List KeyDir) → all_differ ds ≡ true → IsDistinct same_dir ds
 unfolding IsDistinct
-told [] h = tt
-told (d ∷ ds) h = (none_like d ds (not_true (list_any (same_dir d) ds) (and_left (not (list_any (same_dir d) ds)) (all_differ ds) h)), told ds (and_right (not (list_any (same_dir d) ds)) (all_differ ds) h))
+test_shows [] h = tt
+test_shows (d ∷ ds) h = (none_like d ds (not_true (list_any (same_dir d) ds) (and_left (not (list_any (same_dir d) ds)) (all_differ ds) h)), test_shows ds (and_right (not (list_any (same_dir d) ds)) (all_differ ds) h))
 
-tells : (ds : List KeyDir) → IsDistinct same_dir ds → all_differ ds ≡ true
+test_from : (ds : List KeyDir) → IsDistinct same_dir ds → all_differ ds ≡ true
 unfolding IsDistinct
-tells [] h = refl
-tells (d ∷ ds) h = rw (like_none d ds h.0, tells ds h.1) refl
+test_from [] h = refl
+test_from (d ∷ ds) h = rw (like_none d ds h.0, test_from ds h.1) refl
 
 -- The keys of a journal differ exactly where the test says so.
 pub keys_differ-exactly : (journal : List Entry) → (keys_differ journal ≡ true) ↔ KeysDiffer journal
 unfolding keys_differ
-keys_differ-exactly journal = (told (sealing_in journal), tells (sealing_in journal))
+keys_differ-exactly journal = (test_shows (sealing_in journal), test_from (sealing_in journal))
+
+-- The summary says the answer of the test.
+says_test : (r : Report) → told (codes "keys-differ") (summary_data r) ≡ Some (boolean (keys_differ r.journal))
+unfolding summary_data
+says_test r = refl
+
+-- So what it says is true exactly where the keys differ.
+pub told-exactly : (r : Report) → (told (codes "keys-differ") (summary_data r) ≡ Some (boolean true)) ↔ KeysDiffer r.journal
+told-exactly r =
+    let exactly : (keys_differ r.journal ≡ true) ↔ KeysDiffer r.journal = keys_differ-exactly r.journal in (
+      λ h. let same : Some (boolean (keys_differ r.journal)) ≡ Some (boolean true) = sym (says_test r) ∙ h in
+          let is : keys_differ r.journal ≡ true = cc in exactly.0 is,
+      λ d. says_test r ∙ ap (λ b. Some (boolean b)) (exactly.1 d),
+    )

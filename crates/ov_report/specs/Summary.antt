@@ -1,7 +1,8 @@
 -- The summary line of a report, and the report's whole text.
-use Rattle.std.specs.Prelude.{ℕ, ◌+◌, List, [], ◌∷◌, ◌++◌, Bool, true, false, ◌&&◌, length, codes, not, count_by, sum_by}
+use Rattle.std.specs.Prelude.{ℕ, ◌+◌, List, [], ◌∷◌, ◌++◌, Bool, true, false, ◌&&◌, length, codes, not, count_by, sum_by, Option, option_and_then}
 use Rattle.std.specs.List.{list_any}
 use Rattle.serde_json.specs.Data.{Data, boolean, object, no_members, put}
+use Rattle.serde_json.specs.Find.{get}
 use Rattle.ov_model.specs.declared.act.Act.TheVariants as act
 use Rattle.ov_model.specs.declared.command.Command.TheVariants as command
 use Rattle.ov_model.specs.declared.entry.Entry.{Entry}
@@ -92,6 +93,10 @@ summary_data r = one (codes "summary") (object
     (put_num (codes "bad-tag") (answered is_bad_tag r.lanes)
     (put_num (codes "answers") (answers r.lanes)
     (put_num (codes "accepted") (judged is_accept r.shards) no_members)))))))))))))
+
+-- What a summary says under a name.
+abbrev pub told : List ℕ → Data → Option Data
+told name summary = option_and_then (get name) (get (codes "summary") summary)
 
 abbrev pub summary_text : Report → List ℕ
 summary_text r = line_text (summary_data r)

@@ -4,6 +4,7 @@
 pub mod answer;
 pub mod counts;
 pub mod differ;
+pub mod laws;
 mod listed;
 pub mod members;
 pub mod page;

@@ -2,7 +2,7 @@
 
 ghost use Rattle.std.specs.Prelude.{◌≡◌, ◌<◌, ◌≤◌, List, ℕ, length, IfOk, IfErr, OnOk};
 ghost use Rattle.ov_report.specs.Print as spec;
-ghost use Rattle.ov_report.specs.Printing.{Passed, Stopped, texts};
+ghost use Rattle.ov_report.specs.Printing.{Passed, Stopped, full_page, texts};
 
 use crate::answer::answer_line;
 use crate::page::{PrintStop, put};
@@ -66,6 +66,7 @@ pub(crate) fn print_list<T: Listed, K: Sink>(
 ) -> Result<(), PrintStop>
     ensures passed { OnOk result (Passed (K.written sink.old) (K.written sink.new) page.old.items (texts (T.text owner) 0 list.now) page.new.items) }
     ensures stopped { IfErr result (λ stop. Stopped stop (K.written sink.old) (K.written sink.new) (K.faults sink.old) (K.faults sink.new) page.old.items (texts (T.text owner) 0 list.now)) }
+    ensures bound { length page.old.items < full_page → OnOk result (length page.new.items < full_page) }
     ensures later { K.faults sink.old ≤ K.faults sink.new }
 {
     let mut number: u64 = 0;

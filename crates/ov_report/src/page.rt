@@ -4,7 +4,7 @@ ghost use Rattle.std.specs.Prelude.{◌≡◌, ◌<◌, ◌≤◌, [], length, I
 ghost use Rattle.std.specs.Io.KnownBytes.{Appends};
 ghost use Rattle.ov_base.specs.Outside.{Rose};
 ghost use Rattle.ov_base.specs.Loops.{AppendsPart};
-ghost use Rattle.ov_report.specs.Printing.{Passed, Stopped};
+ghost use Rattle.ov_report.specs.Printing.{Passed, Stopped, full_page};
 
 use ov_base::{Memory, Sink, WriteFault, write_all};
 use std::alloc::AllocError;
@@ -67,11 +67,12 @@ pub(crate) fn flush<K: Sink>(page: &mut Vec<u8>, sink: &mut K) -> Result<(), Wri
     Ok(())
 }
 
-/// Prints a line, which isn't empty.
+/// Prints a line, which isn't empty. The page then holds less than a full one.
 pub(crate) fn put<K: Sink>(line: &[u8], page: &mut Vec<u8>, sink: &mut K) -> Result<(), PrintStop>
     requires some { 0 < length line.now }
     ensures passed { OnOk result (Passed (K.written sink.old) (K.written sink.new) page.old.items line.now page.new.items) }
     ensures stopped { IfErr result (λ stop. Stopped stop (K.written sink.old) (K.written sink.new) (K.faults sink.old) (K.faults sink.new) page.old.items line.now) }
+    ensures bound { OnOk result (length page.new.items < full_page) }
     ensures later { K.faults sink.old ≤ K.faults sink.new }
 {
     page.extend_from_slice(line)?;

@@ -25,6 +25,7 @@ fn print_shards<K: Sink>(
     requires eight { length shards.now ≡ 8 }
     ensures passed { OnOk result (Passed (K.written sink.old) (K.written sink.new) page.old.items (spec.shards_text 0 shards.now) page.new.items) }
     ensures stopped { IfErr result (λ stop. Stopped stop (K.written sink.old) (K.written sink.new) (K.faults sink.old) (K.faults sink.new) page.old.items (spec.shards_text 0 shards.now)) }
+    ensures bound { length page.old.items < full_page → OnOk result (length page.new.items < full_page) }
     ensures later { K.faults sink.old ≤ K.faults sink.new }
 {
     let mut number: u32 = 0;
@@ -45,6 +46,7 @@ fn print_summary<K: Sink>(
     requires lane { length report.now.lanes ≡ 1 }
     ensures passed { OnOk result (Passed (K.written sink.old) (K.written sink.new) page.old.items (spec.summary_text report.now) page.new.items) }
     ensures stopped { IfErr result (λ stop. Stopped stop (K.written sink.old) (K.written sink.new) (K.faults sink.old) (K.faults sink.new) page.old.items (spec.summary_text report.now)) }
+    ensures bound { OnOk result (length page.new.items < full_page) }
     ensures later { K.faults sink.old ≤ K.faults sink.new }
 {
     let counts = summary(alloc, report)?;
@@ -63,6 +65,7 @@ fn print_lines<K: Sink>(
     requires shards { length report.now.shards ≡ 8 }
     ensures passed { OnOk result (Passed (K.written sink.old) (K.written sink.new) page.old.items (spec.report_text report.now) page.new.items) }
     ensures stopped { IfErr result (λ stop. Stopped stop (K.written sink.old) (K.written sink.new) (K.faults sink.old) (K.faults sink.new) page.old.items (spec.report_text report.now)) }
+    ensures bound { length page.old.items < full_page → OnOk result (length page.new.items < full_page) }
     ensures later { K.faults sink.old ≤ K.faults sink.new }
 {
     print_list(alloc, 0, report.journal.as_slice(), page, sink)?;

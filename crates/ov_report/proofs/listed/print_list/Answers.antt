@@ -9,6 +9,7 @@ loop-member-preserved g c = record {
   passed = passed_more (g.T.Listed.text c.args.owner) _ _ _ _ _ _ _ _ _ _ c.loop-member-test.true
       (c.as_slice.ensures ∙ c.in_ok-line.ensures.text ∙ ap (λ k. g.T.Listed.text c.args.owner k c.member-item.result) c.loop-member.invariant.number ∙ ap (g.T.Listed.text c.args.owner c.loop-member.member-index) c.member-item.is)
       c.loop-member.invariant.passed c.in_ok-put.ensures.passed;
+  bound = λ held. c.in_ok-put.ensures.bound;
   later = omega (arith, c.loop-member.invariant.later, c.put.ensures.later);
   number = ap (λ (k : ℕ). k + 1) c.loop-member.invariant.number;
 }

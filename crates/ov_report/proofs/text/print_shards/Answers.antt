@@ -11,6 +11,7 @@ loop-shard-preserved g c = record {
   passed = passed_more replays_text _ _ _ _ _ _ _ _ _ _ c.loop-shard-test.true
       (replays_are c.loop-shard.number 0 c.as_slice.result.now ∙ ap (λ k. replays_text k c.as_slice.result.now) c.loop-shard.invariant.number ∙ ap (replays_text c.loop-shard.shard-index) (c.as_slice.ensures ∙ c.shard-item.is))
       c.loop-shard.invariant.passed c.in_ok-print_list.ensures.passed;
+  bound = λ held. c.in_ok-print_list.ensures.bound (c.loop-shard.invariant.bound held);
   later = omega (arith, c.loop-shard.invariant.later, c.print_list.ensures.later);
   number = ap (λ (k : ℕ). k + 1) c.loop-shard.invariant.number;
 }
