@@ -1,4 +1,3 @@
-pub mod NoFloat
 pub mod Cutting
 pub mod Fitting
 pub mod Judging
@@ -7,4 +6,3 @@ pub mod Names
 pub mod Options
 pub mod Stopping
 pub mod Streaming
-pub mod Differ

@@ -1,5 +1,3 @@
-pub mod Print
-pub mod Summary
 pub mod Values
 pub mod Keyconf
 pub mod Grammar

@@ -15,8 +15,8 @@ use Rattle.ov_model.specs.Legal.{Legal, JournalRuns, LinesFollowPath, RemovalsAr
 use Rattle.ov_json.specs.Reading.{Gave, IsScript, HasNoStop, Early, Stop, Event, bad_line, passed, whole_lines, ended_lines}
 use Rattle.ov_json.specs.declared.script.ReadStop.{ReadStop}
 use Rattle.ov_json.specs.declared.script.ReadStop.TheVariants as stop
-use Rattle.ov_json.specs.Summary.{report_text}
-use Rattle.ov_text.specs.Printing.{full_page}
+use Rattle.ov_report.specs.Summary.{report_text}
+use Rattle.ov_report.specs.Printing.{full_page}
 use Rattle.ov_run.specs.declared.ended.Cause.{Cause}
 use Rattle.ov_run.specs.declared.ended.Cause.TheVariants as cause
 use Rattle.ov_run.specs.declared.ended.Ended.{Ended}

@@ -17,7 +17,7 @@ use ov_base::{Sink, Source};
 use ov_json::{ReadStop, Reading, read_script};
 use ov_model::Script;
 use ov_serial::run_script;
-use ov_text::{PrintStop, print_report};
+use ov_report::{PrintStop, print_report};
 use std::alloc::Global;
 
 /// The first packet id that each key sends: a nonce of 0 is never used.

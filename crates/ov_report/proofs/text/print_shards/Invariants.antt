@@ -1,0 +1,12 @@
+use Rattle.std.proofs.Common.{◌≡◌, ◌≤◌, ◌<◌, length, take}
+use Rattle.ov_report.specs.Summary.{replays_text}
+use Rattle.ov_report.specs.Printing.{Passed, full_page, texts}
+use Rattle.ov_report.proofs.text.print_shards.Given as goal
+
+abbrev pub invariant-loop-shard : goal.invariant-loop-shard
+invariant-loop-shard g l = record {
+  passed : Passed (g.K.Sink.written l.fn.sink) (g.K.Sink.written l.sink) l.fn.page.items (texts replays_text 0 (take l.shard-index l.shards)) l.page.items;
+  bound : length l.fn.page.items < full_page → length l.page.items < full_page;
+  later : g.K.Sink.faults l.fn.sink ≤ g.K.Sink.faults l.sink;
+  number : l.number ≡ l.shard-index;
+}

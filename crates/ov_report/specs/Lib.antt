@@ -1,0 +1,4 @@
+pub mod Print
+pub mod Summary
+pub mod Sealing
+pub mod Printing

@@ -1,0 +1,138 @@
+//! The members of a JSON object, put one by one; serde_json's map keeps them in ascending byte order.
+
+ghost use Rattle.std.specs.Prelude.{◌≡◌, false, OnOk, IfOk};
+ghost use Rattle.std.specs.Net.Text.{ipv4_text};
+ghost use Rattle.serde_json.specs.Data.{object, string, put as with_member};
+ghost use Rattle.serde_json.specs.View.{view, members_view};
+ghost use Rattle.hex.specs.Hex.{encode_lower};
+ghost use Rattle.serde_json.specs.Written.{has_float};
+ghost use Rattle.ov_report.specs.Print as spec;
+
+use ov_base::{Memory, Octets};
+use serde_json::{Map, Value, put};
+use std::alloc::Global;
+use std::net::Ipv4Addr;
+
+/// An object's members, in making.
+pub type Members = Map<String, Value>;
+
+/// Puts a number.
+pub fn put_number(
+    members: &mut Members,
+    alloc: Global,
+    name: &str,
+    number: u64,
+) -> Result<(), Memory>
+    ensures { OnOk result (members_view members.new.entries ≡ spec.put_num name.now number (members_view members.old.entries)) }
+{
+    put(members, alloc, name, Value::from(number))?;
+    Ok(())
+}
+
+/// Puts a text.
+pub fn put_text(members: &mut Members, alloc: Global, name: &str, text: &str) -> Result<(), Memory>
+    ensures { OnOk result (members_view members.new.entries ≡ spec.put_text name.now text.now (members_view members.old.entries)) }
+{
+    let owned = String::from_str(alloc, text)?;
+    put(members, alloc, name, Value::String(owned))?;
+    Ok(())
+}
+
+/// Puts an object or another value that is made already.
+pub fn put_value(
+    members: &mut Members,
+    alloc: Global,
+    name: &str,
+    value: Value,
+) -> Result<(), Memory>
+    ensures { OnOk result (members_view members.new.entries ≡ with_member name.now (view value) (members_view members.old.entries)) }
+{
+    put(members, alloc, name, value)?;
+    Ok(())
+}
+
+/// The object of these members.
+pub fn object_of(members: Members) -> Value
+    ensures { view result ≡ object (members_view members.entries) }
+{
+    Value::Object(members)
+}
+
+/// An object with one name.
+pub fn one(alloc: Global, name: &str, value: Value) -> Result<Value, Memory>
+    ensures { IfOk result (λ v. view v ≡ spec.one name.now (view value)) }
+{
+    let mut members = Map::new(alloc);
+    put_value(&mut members, alloc, name, value)?;
+    Ok(object_of(members))
+}
+
+/// An object with one name, whose value is a text.
+pub fn one_text(alloc: Global, name: &str, text: &str) -> Result<Value, Memory>
+    ensures { IfOk result (λ v. view v ≡ spec.one name.now (string text.now)) }
+{
+    let owned = String::from_str(alloc, text)?;
+    one(alloc, name, Value::String(owned))
+}
+
+/// A list of serials.
+pub fn numbers(alloc: Global, serials: &[u32]) -> Result<Value, Memory>
+    ensures { IfOk result (λ v. view v ≡ spec.nums serials.now) }
+{
+    let mut items = Vec::new(alloc);
+    for serial in serials {
+        items.push(Value::from(*serial))?;
+    }
+    Ok(Value::Array(items))
+}
+
+/// An IPv4 address in dotted decimal (RFC 791 names the octets; the text is the usual one).
+pub fn put_ipv4(
+    members: &mut Members,
+    alloc: Global,
+    name: &str,
+    octets: [u8; 4],
+) -> Result<(), Memory>
+    ensures { OnOk result (members_view members.new.entries ≡ spec.put_text name.now (ipv4_text octets) (members_view members.old.entries)) }
+{
+    let text = Ipv4Addr::from_octets(octets).to_string(alloc)?;
+    put_text(members, alloc, name, text.as_str())
+}
+
+/// An IPv6 address as its 32 hexadecimal digits, in lower case.
+pub fn put_ipv6(
+    members: &mut Members,
+    alloc: Global,
+    name: &str,
+    octets: [u8; 16],
+) -> Result<(), Memory>
+    ensures { OnOk result (members_view members.new.entries ≡ spec.put_text name.now (encode_lower octets) (members_view members.old.entries)) }
+{
+    let text = hex::encode(alloc, octets)?;
+    put_text(members, alloc, name, text.as_str())
+}
+
+/// Bytes as hexadecimal digits in lower case, two for each.
+pub fn put_bytes(
+    members: &mut Members,
+    alloc: Global,
+    name: &str,
+    bytes: &[u8],
+) -> Result<(), Memory>
+    ensures { OnOk result (members_view members.new.entries ≡ spec.put_bytes name.now bytes.now (members_view members.old.entries)) }
+{
+    let text = hex::encode(alloc, bytes)?;
+    put(members, alloc, name, Value::String(text))?;
+    Ok(())
+}
+
+/// The line of a value without floats: its compact text and a line end.
+pub fn line_of(alloc: Global, value: &Value) -> Result<Octets, Memory>
+    requires floats { has_float (view value.now) ≡ false }
+    ensures { IfOk result (λ line. line ≡ spec.line_text (view value.now)) }
+{
+    let text = value.to_string(alloc)?;
+    let mut bytes = text.into_bytes();
+    bytes.push(b'\n')?;
+    Ok(Octets::of_vec(bytes))
+}

@@ -1,4 +1,0 @@
-pub mod Passing
-pub mod Texts
-pub mod Counting
-pub mod Sets

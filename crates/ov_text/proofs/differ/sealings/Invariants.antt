@@ -1,7 +1,0 @@
-use Rattle.std.proofs.Common.{◌≡◌, map, take}
-use Rattle.ov_model.specs.Keys.{sealing_in}
-use Rattle.ov_text.specs.Sealing.{pair_of, pair_read}
-use Rattle.ov_text.proofs.differ.sealings.Given as goal
-
-abbrev pub invariant-loop-entry : goal.invariant-loop-entry
-invariant-loop-entry l = map pair_read l.pairs.items ≡ map pair_of (sealing_in (take l.entry-index l.journal))
