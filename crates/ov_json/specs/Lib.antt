@@ -1,6 +1,2 @@
 pub mod Print
 pub mod Summary
-pub mod Values
-pub mod Keyconf
-pub mod Grammar
-pub mod Reading

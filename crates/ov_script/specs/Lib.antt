@@ -1,0 +1,4 @@
+pub mod Values
+pub mod Keyconf
+pub mod Grammar
+pub mod Reading
