@@ -1,4 +1,7 @@
 pub mod Cutting
+pub mod PlainText
+pub mod TxText
+pub mod RxText
 pub mod Fitting
 pub mod Judging
 pub mod Lines

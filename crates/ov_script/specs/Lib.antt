@@ -2,3 +2,4 @@ pub mod Values
 pub mod Keyconf
 pub mod Grammar
 pub mod Reading
+pub mod Compact

@@ -1,6 +1,9 @@
 //! The script that bytes say: its lines, each by the grammar of lines.
 #![tactic(auto)]
 
+pub mod compact;
+pub mod compact_rx;
+pub mod compact_tx;
 pub mod grammar;
 pub mod keyconf;
 pub mod line;
@@ -8,6 +11,7 @@ pub mod member;
 #[cfg(test)]
 mod packet_tests;
 pub mod packets;
+pub mod parts;
 pub mod pieces;
 #[cfg(test)]
 mod reading_tests;

@@ -4,6 +4,7 @@ ghost use Rattle.std.specs.Prelude.{◌≡◌, IfErr, IfOk};
 ghost use Rattle.ov_model.specs.declared.line.Line.{Line};
 ghost use Rattle.ov_script.specs.Grammar.{Says};
 
+use crate::compact::compact_line;
 use crate::grammar::line_of;
 use ov_model::Line;
 use serde_json::Value;
@@ -34,6 +35,18 @@ impl From<AllocError> for LineStop {
 /// The line that the bytes say, its line end left out, on one of `lanes` lanes. `Bad` comes exactly where
 /// they say none (RFC 8259 and the grammar of lines); want of memory alone is free.
 pub fn read_line(alloc: Global, line: &[u8], lanes: u32) -> Result<Line, LineStop>
+    ensures ok { IfOk result (λ read. Says line.now lanes read) }
+    ensures bad { IfErr result (λ stop. stop ≡ LineStop.Bad → (read : Line) → ¬ (Says line.now lanes read)) }
+{
+    match compact_line(alloc, line, lanes) {
+        Ok(Some(found)) => Ok(found),
+        Ok(None) => read_value(alloc, line, lanes),
+        Err(_) => Err(LineStop::Memory),
+    }
+}
+
+/// The same by the whole grammar alone, whichever text the line has.
+pub fn read_value(alloc: Global, line: &[u8], lanes: u32) -> Result<Line, LineStop>
     ensures ok { IfOk result (λ read. Says line.now lanes read) }
     ensures bad { IfErr result (λ stop. stop ≡ LineStop.Bad → (read : Line) → ¬ (Says line.now lanes read)) }
 {

@@ -7,7 +7,7 @@ use Rattle.ov_script.specs.declared.line.LineStop.{LineStop}
 use Rattle.ov_script.specs.declared.line.LineStop.TheVariants.{Bad}
 use Rattle.ov_script.specs.Grammar.{IsLine, Says}
 use Rattle.ov_script.proofs.Options.{some_same, handed_on}
-use Rattle.ov_script.proofs.line.read_line.Goals as goal
+use Rattle.ov_script.proofs.line.read_value.Goals as goal
 
 pub returns-in_err-read-clause-bad : goal.returns-in_err-read-clause-bad
 returns-in_err-read-clause-bad c =
