@@ -9,11 +9,11 @@ use Rattle.ov_model.specs.declared.report.LaneLog.{LaneLog}
 use Rattle.ov_model.specs.Keys.{IdsCount, key_of}
 use Rattle.ov_model.specs.Legal.{Legal, JournalRuns, LinesFollowPath, RemovalsAreNoted, ShardsJudge}
 use Rattle.ov_model.specs.Removals.{AllReleased}
-use Rattle.ov_json.specs.Reading.{AreLines, Gave, IsScript, HasNoStop, Counts, whole_lines}
+use Rattle.ov_script.specs.Reading.{AreLines, Gave, IsScript, HasNoStop, Counts, whole_lines}
 use Rattle.ov_serial.specs.Lines.{IsWhole}
 use Rattle.ov_run.specs.Clauses.{Answered, Reported, EndsBy, Counted, CountedRun, cause_of_stop}
-use Rattle.ov_json.specs.declared.script.ReadStop.{ReadStop}
-use Rattle.ov_json.specs.declared.script.ReadStop.TheVariants as stop
+use Rattle.ov_script.specs.declared.script.ReadStop.{ReadStop}
+use Rattle.ov_script.specs.declared.script.ReadStop.TheVariants as stop
 use Rattle.ov_run.specs.declared.ended.Cause.{Cause}
 use Rattle.ov_run.specs.declared.ended.Cause.TheVariants as cause
 

@@ -12,9 +12,9 @@ use Rattle.ov_model.specs.declared.report.LaneLog.{LaneLog}
 use Rattle.ov_model.specs.Keys.{IdsCount, key_of}
 use Rattle.ov_model.specs.Removals.{AllReleased}
 use Rattle.ov_model.specs.Legal.{Legal, JournalRuns, LinesFollowPath, RemovalsAreNoted, ShardsJudge}
-use Rattle.ov_json.specs.Reading.{Gave, IsScript, HasNoStop, Early, Stop, Event, bad_line, passed, whole_lines, ended_lines}
-use Rattle.ov_json.specs.declared.script.ReadStop.{ReadStop}
-use Rattle.ov_json.specs.declared.script.ReadStop.TheVariants as stop
+use Rattle.ov_script.specs.Reading.{Gave, IsScript, HasNoStop, Early, Stop, Event, bad_line, passed, whole_lines, ended_lines}
+use Rattle.ov_script.specs.declared.script.ReadStop.{ReadStop}
+use Rattle.ov_script.specs.declared.script.ReadStop.TheVariants as stop
 use Rattle.ov_report.specs.Summary.{report_text}
 use Rattle.ov_report.specs.Printing.{full_page}
 use Rattle.ov_run.specs.declared.ended.Cause.{Cause}

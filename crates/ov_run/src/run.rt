@@ -8,14 +8,14 @@ ghost use Rattle.ov_model.specs.Legal.{Legal, JournalRuns, LinesFollowPath, Remo
 ghost use Rattle.ov_model.specs.Removals.{AllReleased};
 ghost use Rattle.ov_model.specs.Sizes.{Fits};
 ghost use Rattle.ov_serial.specs.Lines.{IsWhole};
-ghost use Rattle.ov_json.specs.Reading as reading;
+ghost use Rattle.ov_script.specs.Reading as reading;
 ghost use Rattle.ov_run.specs.declared.ended.Cause.TheVariants as cause;
 ghost use Rattle.ov_run.specs.Clauses as spec;
 
 use crate::ended::{Cause, Ended};
 use ov_base::{Sink, Source};
-use ov_json::{ReadStop, Reading, read_script};
 use ov_model::Script;
+use ov_script::{ReadStop, Reading, read_script};
 use ov_serial::run_script;
 use ov_report::{PrintStop, print_report};
 use std::alloc::Global;

@@ -1,5 +1,5 @@
 -- The script was read whole and run: its report is legal. Where nothing was read, there is no stop to tell.
-use Rattle.ov_json.proofs.Stopping.{early_stops, none_given}
+use Rattle.ov_script.proofs.Stopping.{early_stops, none_given}
 use Rattle.ov_run.proofs.Reporting.{reported, all_counted, stop_counted}
 use Rattle.ov_run.proofs.run.run_serial.Goals as goal
 

@@ -1,4 +1,0 @@
-pub mod Values
-pub mod Keyconf
-pub mod Grammar
-pub mod Reading

@@ -1,0 +1,11 @@
+pub mod Cutting
+pub mod PlainText
+pub mod TxText
+pub mod RxText
+pub mod Fitting
+pub mod Judging
+pub mod Lines
+pub mod Names
+pub mod Options
+pub mod Stopping
+pub mod Streaming

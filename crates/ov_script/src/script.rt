@@ -1,0 +1,189 @@
+//! The script of a source: its bytes, read piece by piece, cut into lines, each read once.
+
+ghost use Rattle.std.specs.Prelude.{◌≡◌, ◌≢◌, ◌<◌, ◌≤◌, ◌⊎◌, ℕ, List, [], Some, length, IfOk, IfErr, OnOk};
+ghost use Rattle.std.specs.List.{AllByRecursion};
+ghost use Rattle.std.specs.Io.KnownBytes.{IsAtEnd};
+ghost use Rattle.ov_base.specs.Outside.{Rose};
+ghost use Rattle.ov_model.specs.Sizes.{Fits};
+ghost use Rattle.ov_script.specs.Reading as spec;
+
+use crate::line::LineStop;
+use crate::pieces::{read_last, read_piece};
+use ov_base::{Got, ListOf, Source};
+use ov_model::{Line, Script};
+use std::alloc::{AllocError, Global};
+use thiserror::Error;
+
+/// The most bytes that a script has.
+pub const MOST_BYTES: usize = 67_108_864;
+
+/// The most bytes that one read takes.
+const PIECE: usize = 65_536;
+
+/// A limit that a script passed.
+#[derive(Clone, Copy, Debug, PartialEq, Eq)]
+pub enum Limit {
+    /// It has more than `MOST_BYTES` bytes.
+    Bytes,
+}
+
+/// Why a source gave no script.
+#[derive(Clone, Copy, Debug, PartialEq, Eq, Error)]
+pub enum ReadStop {
+    /// A read failed.
+    #[error("a read failed")]
+    Read,
+    /// The line of this number, from 1, is outside the grammar.
+    #[error("a line outside the grammar")]
+    Bad(u64),
+    /// The script passed a limit.
+    #[error("a script past a limit")]
+    Limit(Limit),
+    /// Want of memory.
+    #[error("want of memory")]
+    Memory,
+}
+
+/// What reading a source gave.
+#[derive(Debug, Drop, PartialEq, Eq)]
+pub struct Reading {
+    /// How many whole lines were taken and found good.
+    pub good: u64,
+    /// The script, or why there is none.
+    pub outcome: Result<Script, ReadStop>,
+}
+
+/// Reads `source` piece by piece, to its end or to the piece in which it gives more than `MOST_BYTES` bytes,
+/// and its lines in order, each once, on `lanes` lanes, before the next piece. A line outside the grammar is
+/// `Bad`, and comes before `Limit` and `Read` where it was ended; `Limit` comes where there are too many
+/// bytes; `Read` only where a read failed, and with every other answer none did. Want of memory alone is
+/// free. A source that tells what it has left tells what it gave, and a script comes only from its end.
+pub fn read_script<S: Source>(alloc: Global, source: &mut S, lanes: u32) -> Reading
+    ensures script { IfOk result.outcome (λ script. (taken : List ℕ) → spec.Gave (S.left source.old) (S.left source.new) taken
+        → (S.left source.new ≡ Some []) × spec.IsScript taken lanes script) }
+    ensures no_stop { OnOk result.outcome ((taken : List ℕ) → spec.Gave (S.left source.old) (S.left source.new) taken
+        → spec.HasNoStop taken lanes) }
+    ensures stops { IfErr result.outcome (λ stop. (event : spec.Event) → stop ≡ spec.stop_of event
+        → (taken : List ℕ) → spec.Gave (S.left source.old) (S.left source.new) taken
+        → spec.Early taken lanes event ⊎ ((S.left source.new ≡ Some []) × spec.Stop taken lanes event)) }
+    ensures fault { IfErr result.outcome (λ stop. stop ≡ ReadStop.Read → Rose (S.faults source.old) (S.faults source.new)) }
+    ensures not_early { IfErr result.outcome (λ stop. stop ≡ ReadStop.Read → (taken : List ℕ)
+        → spec.Gave (S.left source.old) (S.left source.new) taken → (event : spec.Event) → ¬ (spec.Early taken lanes event)) }
+    ensures told_early { (event : spec.Event) → (taken : List ℕ) → spec.Gave (S.left source.old) (S.left source.new) taken
+        → spec.Early taken lanes event → spec.IsTold event result.outcome }
+    ensures told_stop { ¬ (Rose (S.faults source.old) (S.faults source.new)) → (event : spec.Event) → (taken : List ℕ)
+        → spec.Gave (S.left source.old) (S.left source.new) taken → spec.Stop taken lanes event → spec.IsTold event result.outcome }
+    ensures counted { (taken : List ℕ) → spec.Gave (S.left source.old) (S.left source.new) taken
+        → spec.Counts taken result.outcome result.good }
+    ensures good { (taken : List ℕ) → spec.Gave (S.left source.old) (S.left source.new) taken
+        → spec.AreGood lanes (spec.counted_lines taken) result.good }
+    ensures taken { spec.GaveSome (S.left source.old) (S.left source.new) }
+    ensures ended { OnOk result.outcome (IsAtEnd (S.left source.new)) }
+    ensures later { S.faults source.old ≤ S.faults source.new }
+    ensures kept { OnOk result.outcome (S.faults source.new ≡ S.faults source.old) }
+    ensures calm { IfErr result.outcome (λ stop. stop ≢ ReadStop.Read → S.faults source.new ≡ S.faults source.old) }
+    ensures fits { IfOk result.outcome (λ script. AllByRecursion (λ line. Fits line.deed) script.lines) }
+{
+    let mut lines = Vec::new(alloc);
+    if let Err(stop) = read_lines(alloc, source, lanes, &mut lines) {
+        return Reading {
+            good: lines.len() as u64,
+            outcome: Err(stop),
+        };
+    }
+    Reading {
+        good: lines.len() as u64,
+        outcome: Ok(Script {
+            lines: ListOf::of_vec(lines),
+        }),
+    }
+}
+
+/// Reads the lines of a source, by way of a buffer for its pieces, up to the event at which reading stops.
+fn read_lines<S: Source>(
+    alloc: Global,
+    source: &mut S,
+    lanes: u32,
+    lines: &mut Vec<Line>,
+) -> Result<(), ReadStop>
+    requires empty { lines.old.items ≡ [] }
+    ensures read { spec.HasRead lanes (S.left source.old) (S.left source.new) (S.faults source.old) (S.faults source.new) lines.new.items result }
+    ensures later { S.faults source.old ≤ S.faults source.new }
+    ensures kept { OnOk result (S.faults source.new ≡ S.faults source.old) }
+    ensures calm { IfErr result (λ stop. stop ≢ ReadStop.Read → S.faults source.new ≡ S.faults source.old) }
+{
+    match piece_room(alloc) {
+        Ok(mut buffer) => read_pieces(alloc, source, lanes, buffer.as_mut_slice(), lines),
+        Err(_) => Err(ReadStop::Memory),
+    }
+}
+
+/// Room for one piece, whose length its clause names by the definition.
+#[tactic(auto, unfolding(crate::specs::Reading::most_piece))]
+fn piece_room(alloc: Global) -> Result<Vec<u8>, AllocError>
+    ensures piece { IfOk result (λ room. length room.items ≡ spec.most_piece) }
+    ensures some { IfOk result (λ room. 0 < length room.items) }
+{
+    Vec::from_elem(alloc, 0, PIECE)
+}
+
+/// Reads a source piece by piece, and the lines that each piece ends before the next. Besides the lines,
+/// one piece and one line are in memory at a time.
+fn read_pieces<S: Source>(
+    alloc: Global,
+    source: &mut S,
+    lanes: u32,
+    buffer: &mut [u8],
+    lines: &mut Vec<Line>,
+) -> Result<(), ReadStop>
+    requires room { 0 < length buffer.old }
+    requires piece { length buffer.old ≤ spec.most_piece }
+    requires empty { lines.old.items ≡ [] }
+    ensures read { spec.HasRead lanes (S.left source.old) (S.left source.new) (S.faults source.old) (S.faults source.new) lines.new.items result }
+    ensures later { S.faults source.old ≤ S.faults source.new }
+    ensures kept { OnOk result (S.faults source.new ≡ S.faults source.old) }
+    ensures calm { IfErr result (λ stop. stop ≢ ReadStop.Read → S.faults source.new ≡ S.faults source.old) }
+{
+    let mut rest = Vec::new(alloc);
+    // How many bytes may still come.
+    let mut room = most_bytes();
+    'pieces: loop {
+        match source.read(buffer) {
+            Got::Bytes(count) => {
+                let piece = &buffer[..count.min(room)];
+                if let Err(stop) = read_piece(alloc, piece, lanes, &mut rest, lines) {
+                    return Err(stop_at(stop, lines.as_slice()));
+                }
+                if count > room {
+                    return Err(ReadStop::Limit(Limit::Bytes));
+                }
+                room -= count;
+            }
+            Got::End => {
+                if let Err(stop) = read_last(alloc, rest.as_slice(), lanes, lines) {
+                    return Err(stop_at(stop, lines.as_slice()));
+                }
+                return Ok(());
+            }
+            Got::Failed => return Err(ReadStop::Read),
+        }
+    }
+}
+
+/// Why reading ends at a line that wasn't read, after these good ones.
+fn stop_at(stop: LineStop, good: &[Line]) -> ReadStop
+    ensures { result ≡ spec.line_stop stop (length good.now) }
+{
+    match stop {
+        LineStop::Bad => ReadStop::Bad(good.len() as u64 + 1),
+        LineStop::Memory => ReadStop::Memory,
+    }
+}
+
+/// `MOST_BYTES`, whose clause names it by the definition: a `take` of the bare number is dear to compute with.
+#[tactic(auto, unfolding(crate::specs::Reading::most_bytes))]
+fn most_bytes() -> usize
+    ensures { result ≡ spec.most_bytes }
+{
+    MOST_BYTES
+}
