@@ -68,6 +68,7 @@ pub(crate) fn print_list<T: Listed, K: Sink>(
     ensures stopped { IfErr result (λ stop. Stopped stop (K.written sink.old) (K.written sink.new) (K.faults sink.old) (K.faults sink.new) page.old.items (texts (T.text owner) 0 list.now)) }
     ensures bound { length page.old.items < full_page → OnOk result (length page.new.items < full_page) }
     ensures later { K.faults sink.old ≤ K.faults sink.new }
+    ensures kept { OnOk result (K.faults sink.new ≡ K.faults sink.old) }
 {
     let mut number: u64 = 0;
     for member in list {

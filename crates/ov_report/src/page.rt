@@ -60,6 +60,7 @@ pub(crate) fn flush<K: Sink>(page: &mut Vec<u8>, sink: &mut K) -> Result<(), Wri
     ensures whole { OnOk result (Appends (K.written sink.old) (K.written sink.new) page.old.items) }
     ensures part { OnErr result (AppendsPart (K.written sink.old) (K.written sink.new) page.old.items) }
     ensures later { K.faults sink.old ≤ K.faults sink.new }
+    ensures kept { OnOk result (K.faults sink.new ≡ K.faults sink.old) }
     ensures failed { OnErr result (Rose (K.faults sink.old) (K.faults sink.new)) }
 {
     write_all(sink, page.as_slice())?;
@@ -74,6 +75,7 @@ pub(crate) fn put<K: Sink>(line: &[u8], page: &mut Vec<u8>, sink: &mut K) -> Res
     ensures stopped { IfErr result (λ stop. Stopped stop (K.written sink.old) (K.written sink.new) (K.faults sink.old) (K.faults sink.new) page.old.items line.now) }
     ensures bound { OnOk result (length page.new.items < full_page) }
     ensures later { K.faults sink.old ≤ K.faults sink.new }
+    ensures kept { OnOk result (K.faults sink.new ≡ K.faults sink.old) }
 {
     page.extend_from_slice(line)?;
     if page.len() >= FULL {

@@ -27,6 +27,7 @@ fn print_shards<K: Sink>(
     ensures stopped { IfErr result (λ stop. Stopped stop (K.written sink.old) (K.written sink.new) (K.faults sink.old) (K.faults sink.new) page.old.items (spec.shards_text 0 shards.now)) }
     ensures bound { length page.old.items < full_page → OnOk result (length page.new.items < full_page) }
     ensures later { K.faults sink.old ≤ K.faults sink.new }
+    ensures kept { OnOk result (K.faults sink.new ≡ K.faults sink.old) }
 {
     let mut number: u32 = 0;
     for shard in shards {
@@ -48,6 +49,7 @@ fn print_summary<K: Sink>(
     ensures stopped { IfErr result (λ stop. Stopped stop (K.written sink.old) (K.written sink.new) (K.faults sink.old) (K.faults sink.new) page.old.items (spec.summary_text report.now)) }
     ensures bound { OnOk result (length page.new.items < full_page) }
     ensures later { K.faults sink.old ≤ K.faults sink.new }
+    ensures kept { OnOk result (K.faults sink.new ≡ K.faults sink.old) }
 {
     let counts = summary(alloc, report)?;
     let line = line_of(alloc, &counts)?;
@@ -67,6 +69,7 @@ fn print_lines<K: Sink>(
     ensures stopped { IfErr result (λ stop. Stopped stop (K.written sink.old) (K.written sink.new) (K.faults sink.old) (K.faults sink.new) page.old.items (spec.report_text report.now)) }
     ensures bound { length page.old.items < full_page → OnOk result (length page.new.items < full_page) }
     ensures later { K.faults sink.old ≤ K.faults sink.new }
+    ensures kept { OnOk result (K.faults sink.new ≡ K.faults sink.old) }
 {
     print_list(alloc, 0, report.journal.as_slice(), page, sink)?;
     print_shards(alloc, report.shards.as_slice(), page, sink)?;
@@ -89,6 +92,7 @@ pub fn print_report<K: Sink>(alloc: Global, report: &Report, sink: &mut K) -> Re
     ensures failed { result ≡ Err PrintStop.Write → Rose (K.faults sink.old) (K.faults sink.new) }
     ensures short { IfErr result (λ why. why ≡ PrintStop.Memory → length (spec.report_text report.now) < full_page → Keeps (K.written sink.old) (K.written sink.new)) }
     ensures later { K.faults sink.old ≤ K.faults sink.new }
+    ensures kept { OnOk result (K.faults sink.new ≡ K.faults sink.old) }
 {
     let mut page = Vec::new(alloc);
     print_lines(alloc, report, &mut page, sink)?;

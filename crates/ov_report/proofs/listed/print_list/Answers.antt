@@ -11,6 +11,7 @@ loop-member-preserved g c = record {
       c.loop-member.invariant.passed c.in_ok-put.ensures.passed;
   bound = λ held. c.in_ok-put.ensures.bound;
   later = omega (arith, c.loop-member.invariant.later, c.put.ensures.later);
+  kept = c.in_ok-put.ensures.kept ∙ c.loop-member.invariant.kept;
   number = ap (λ (k : ℕ). k + 1) c.loop-member.invariant.number;
 }
 

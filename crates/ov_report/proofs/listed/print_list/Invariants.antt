@@ -7,5 +7,6 @@ invariant-loop-member g l = record {
   passed : Passed (g.K.Sink.written l.fn.sink) (g.K.Sink.written l.sink) l.fn.page.items (texts (g.T.Listed.text l.owner) 0 (take l.member-index l.list)) l.page.items;
   bound : length l.fn.page.items < full_page → length l.page.items < full_page;
   later : g.K.Sink.faults l.fn.sink ≤ g.K.Sink.faults l.sink;
+  kept : g.K.Sink.faults l.sink ≡ g.K.Sink.faults l.fn.sink;
   number : l.number ≡ l.member-index;
 }

@@ -13,6 +13,7 @@ loop-shard-preserved g c = record {
       c.loop-shard.invariant.passed c.in_ok-print_list.ensures.passed;
   bound = λ held. c.in_ok-print_list.ensures.bound (c.loop-shard.invariant.bound held);
   later = omega (arith, c.loop-shard.invariant.later, c.print_list.ensures.later);
+  kept = c.in_ok-print_list.ensures.kept ∙ c.loop-shard.invariant.kept;
   number = ap (λ (k : ℕ). k + 1) c.loop-shard.invariant.number;
 }
 

@@ -8,5 +8,6 @@ invariant-loop-shard g l = record {
   passed : Passed (g.K.Sink.written l.fn.sink) (g.K.Sink.written l.sink) l.fn.page.items (texts replays_text 0 (take l.shard-index l.shards)) l.page.items;
   bound : length l.fn.page.items < full_page → length l.page.items < full_page;
   later : g.K.Sink.faults l.fn.sink ≤ g.K.Sink.faults l.sink;
+  kept : g.K.Sink.faults l.sink ≡ g.K.Sink.faults l.fn.sink;
   number : l.number ≡ l.shard-index;
 }
