@@ -3,6 +3,7 @@
 use crate::ident::{KeyId, PeerId};
 use ov_aes::KeyBytes;
 use ov_base::Transport;
+use std::fmt;
 
 /// Why a peer was removed (the netlink attribute del-reason).
 #[derive(Clone, Copy, Debug, PartialEq, Eq)]
@@ -51,10 +52,18 @@ pub enum Slot {
 
 /// One direction of a key: the bytes of the AES key, and the 8 bytes that stand behind the packet id in
 /// each nonce.
-#[derive(Clone, Copy, Debug, PartialEq, Eq)]
+#[derive(Clone, Copy, PartialEq, Eq)]
 pub struct KeyDir {
     pub key: KeyBytes,
     pub tail: [u8; 8],
+}
+
+/// A direction prints as its kind and its lengths, with no byte of its key or its tail.
+impl fmt::Debug for KeyDir {
+    fn fmt<W: fmt::Write>(&self, f: &mut fmt::Formatter<W>) -> fmt::Result {
+        let bytes = self.key.bytes().len();
+        write!(f, "KeyDir(a key of {bytes} bytes, a tail of 8)")
+    }
 }
 
 /// The attributes of a key that a command gives. The two directions may have keys of different lengths.

@@ -2,6 +2,7 @@
 
 use crate::command::Slot;
 use ov_base::Octets;
+use std::fmt;
 
 /// The operations of the family that are taken.
 #[derive(Clone, Copy, Debug, PartialEq, Eq)]
@@ -58,10 +59,22 @@ pub const NO_ATTRIBUTES: NlPeer = NlPeer {
 };
 
 /// One direction of a key as it was given: bytes in no range yet.
-#[derive(Debug, Drop, PartialEq, Eq)]
+#[derive(Drop, PartialEq, Eq)]
 pub struct NlKeyDir {
     pub cipher_key: Option<Octets>,
     pub nonce_tail: Option<Octets>,
+}
+
+/// A direction prints as its kind and the lengths that were given, with no byte of its key or its tail.
+impl fmt::Debug for NlKeyDir {
+    fn fmt<W: fmt::Write>(&self, f: &mut fmt::Formatter<W>) -> fmt::Result {
+        let key = self.cipher_key.as_ref().map(|bytes| bytes.len());
+        let tail = self.nonce_tail.as_ref().map(|bytes| bytes.len());
+        write!(
+            f,
+            "NlKeyDir(bytes of the key: {key:?}, of the tail: {tail:?})"
+        )
+    }
 }
 
 /// The attributes of a key as they were given, in no range yet.
