@@ -132,8 +132,9 @@ fn peer_command(op: NlOp, peer: &Option<NlPeer>) -> Result<Command, Errno>
 }
 
 /// The command of a message. `Errno::Invalid` comes exactly where, of an operation on peers, the peer or
-/// its id is missing, the id is above 16777215, or an attribute of peer-new is out of range or stands
-/// without another that it needs; and, of key-new, an attribute is missing or out of its range.
+/// its id is missing, the id is above 16777215, or an attribute of peer-new is out of range, stands
+/// without another that it needs, or is a second remote or a second local address, of the other family;
+/// and, of key-new, an attribute is missing or out of its range.
 /// `Errno::NotSupported` comes exactly where key-new is right but for its cipher. A message that is
 /// refused makes no step of the peer table.
 #[tactic(auto, unfolding(ov_model::specs::Checked::checked))]

@@ -31,7 +31,7 @@ impl<S: Kept> Turn<S> {
     ghost use Rattle.ov_turn.specs.Seats.{cells_of, IsSeatOf, IsNew, share_of, seen_of, own_of, holds_of, owes_of};
 
     /// A lock round `kept`, with `cells` cells at 0, and the seat that has the whole share of
-    /// 4294967296. The only refusal is want of memory, and it gives `kept` back.
+    /// 4294967296. A refusal gives `kept` back: it is for want of memory, which no clause ties to a cause.
     pub fn new(alloc: Global, kept: S, cells: u32) -> Result<(Turn<S>, TurnSeat<S>), S>
         requires empty { S.history kept ≡ [] }
         requires live { S.live kept ≡ [] }
