@@ -1,6 +1,6 @@
 // A key that seals and unseals.
 
-ghost use Rattle.std.specs.Prelude.{◌≡◌, ◌≤◌, ◌↔◌, length, IsOk, IsErr, OnOk, OnErr};
+ghost use Rattle.std.specs.Prelude.{◌≡◌, ◌≤◌, ◌↔◌, length, IsOk, IsErr, IsTrue, OnOk, OnErr};
 ghost use Rattle.ov_aes.specs.Aes.{key_list};
 ghost use Rattle.ov_gcm.specs.Gcm.{seal_text, seal_tag, tag_of, Opens, plain};
 
@@ -8,6 +8,7 @@ use crate::blocks::{BLOCK, MOST_BYTES, absorb, add_block, lengths};
 use crate::stream::{counter_block, crypt};
 use ov_aes::{AesKey, KeyBytes};
 use ov_ghash::Ghash;
+use std::fmt;
 use std::marker::Model;
 use thiserror::Error;
 
@@ -43,6 +44,26 @@ impl Model for GcmKey {
     ghost inverse = { λ k. record { aes = k; hash = fresh (hash_key (key_list k)) } };
 
     ghost inverse_ok = { λ a h. λ i. record { aes = a.aes; hash = h.0 i } };
+}
+
+/// The key prints as its kind, with no byte of it and nothing that is computed of it.
+impl fmt::Debug for GcmKey {
+    fn fmt<W: fmt::Write>(&self, f: &mut fmt::Formatter<W>) -> fmt::Result {
+        let aes = &self.aes;
+        write!(f, "GcmKey({aes:?})")
+    }
+}
+
+/// Whether two tags are equal. Every byte of both is looked at, wherever they differ first, so that
+/// the time doesn't tell how much of a forged tag is right.
+fn equal(right: [u8; 16], tag: [u8; 16]) -> bool
+    ensures { IsTrue result ↔ (right ≡ tag) }
+{
+    let mut differing = 0;
+    for i in 0..16 {
+        differing |= right[i] ^ tag[i];
+    }
+    differing == 0
 }
 
 impl GcmKey {
@@ -84,7 +105,7 @@ impl GcmKey {
         ensures unchanged { OnErr result (text.new ≡ text.old) }
     {
         let right = self.tag(nonce, ad, text);
-        if right != tag {
+        if !equal(right, tag) {
             return Err(BadTag);
         }
         crypt(&self.aes, nonce, text);
