@@ -1,5 +1,5 @@
 use Rattle.ov_ghash.specs.Block.{number_of}
-use Rattle.ov_ghash.proofs.number.Goals as goal
+use Rattle.ov_ghash.proofs.subkey.number.Goals as goal
 
 pub returns : goal.returns
 unfolding number_of
