@@ -4,3 +4,5 @@ pub mod Schedules
 pub mod Filled
 pub mod Vectors
 pub mod Lengths
+pub mod NibbleFacts
+pub mod RoundFacts

@@ -4,3 +4,4 @@ pub mod KeySchedule
 pub mod Cipher
 pub mod Aes
 pub mod Words
+pub mod Nibbles

@@ -1,64 +1,61 @@
-// The rounds of the cipher (FIPS 197, 5.1) on four words, a column of the state each.
+// The rounds of the cipher (FIPS 197, 5.1) on a vector of the state's 16 bytes.
 
-ghost use Rattle.std.specs.Prelude.{◌≡◌, ℕ, ◌+◌, ◌-◌, ◌*◌, ◌<◌, ◌≤◌, List, [], ◌∷◌};
+ghost use Rattle.std.specs.Prelude.{◌≡◌, ℕ, ◌+◌, ◌-◌, ◌*◌, ◌<◌, ◌≤◌, List, [], ◌∷◌, map, replicate};
 ghost use Rattle.std.specs.Int.{to_be_bytes, w32};
 ghost use Rattle.ov_aes.specs.Field.{plus};
-ghost use Rattle.ov_aes.specs.SBox.{sub_byte, sub_bytes};
-ghost use Rattle.ov_aes.specs.Cipher.{cipher, mix_column, mix_columns, round_key, shift_rows};
-ghost use Rattle.ov_aes.specs.Words.{Begins, byte_of, bytes_of};
+ghost use Rattle.ov_aes.specs.SBox.{sub_bytes};
+ghost use Rattle.ov_aes.specs.Nibbles.{AreBytes, inner};
+ghost use Rattle.ov_aes.specs.Cipher.{cipher, mix_columns, round_key, shift_rows};
+ghost use Rattle.ov_aes.specs.Words.{Begins, bytes_of};
 
 use crate::key_schedule::WORDS;
-use crate::tables::{from_row0, from_row1, from_row2, from_row3, s_box};
-use crate::words::{byte0, byte1, byte2, byte3, word_of};
+use crate::nibbles::{
+    LAST_FIRST, LAST_SECOND, ONCE_FIRST, ONCE_SECOND, TWICE_FIRST, TWICE_SECOND, inner_form,
+    places, summed,
+};
+use crate::words::{byte0, byte1, byte2, byte3};
+use std::simd::prelude::*;
 
-/// One column after SubBytes, MixColumns and AddRoundKey, from the columns that ShiftRows takes its
-/// four rows from.
-fn column(a: u32, b: u32, c: u32, d: u32, key: u32) -> u32
-    ensures { to_be_bytes w32 result
-        ≡ plus (mix_column (sub_byte (byte_of a 0)) (sub_byte (byte_of b 1)) (sub_byte (byte_of c 2))
-        (sub_byte (byte_of d 3))) (to_be_bytes w32 key) }
+/// Where ShiftRows takes the bytes of the state from (5.1.2).
+const SHIFTED: [usize; 16] = [0, 5, 10, 15, 4, 9, 14, 3, 8, 13, 2, 7, 12, 1, 6, 11];
+
+/// The same for the byte one row below in the shifted column.
+const ONE_BELOW: [usize; 16] = [5, 10, 15, 0, 9, 14, 3, 4, 13, 2, 7, 8, 1, 6, 11, 12];
+
+/// The same for the byte two rows below.
+const TWO_BELOW: [usize; 16] = [10, 15, 0, 5, 14, 3, 4, 9, 2, 7, 8, 13, 6, 11, 12, 1];
+
+/// The same for the byte three rows below.
+const THREE_BELOW: [usize; 16] = [15, 0, 5, 10, 3, 4, 9, 14, 7, 8, 13, 2, 11, 12, 1, 6];
+
+/// A round with MixColumns, of a state in the inner form. The key has the inner form of the round key
+/// plus 0x63, since the look-ups leave the 0x63 of S out.
+#[inline(always)]
+fn round(state: u8x16, key: u8x16) -> u8x16
+    ensures { (s k : List ℕ) → AreBytes s → AreBytes k →
+        state ≡ map inner s → key ≡ map inner (plus k (replicate 16 0x63)) →
+        result ≡ map inner (plus (mix_columns (shift_rows (sub_bytes s))) k) }
 {
-    from_row0(byte0(a)) ^ from_row1(byte1(b)) ^ from_row2(byte2(c)) ^ from_row3(byte3(d)) ^ key
+    let found = places(state);
+    let once = summed(ONCE_FIRST, ONCE_SECOND, found);
+    let twice = summed(TWICE_FIRST, TWICE_SECOND, found);
+    let thrice = once ^ twice;
+    twice.swizzle(SHIFTED)
+        ^ thrice.swizzle(ONE_BELOW)
+        ^ once.swizzle(TWO_BELOW)
+        ^ once.swizzle(THREE_BELOW)
+        ^ key
 }
 
-/// One column of the last round, which has no MixColumns.
-fn last_column(a: u32, b: u32, c: u32, d: u32, key: u32) -> u32
-    ensures { to_be_bytes w32 result
-        ≡ plus (sub_byte (byte_of a 0) ∷ sub_byte (byte_of b 1) ∷ sub_byte (byte_of c 2)
-        ∷ sub_byte (byte_of d 3) ∷ []) (to_be_bytes w32 key) }
+/// The last round, which has no MixColumns, of a state in the inner form. The key has the round key plus
+/// 0x63.
+#[inline(always)]
+fn last_round(state: u8x16, key: u8x16) -> u8x16
+    ensures { (s k : List ℕ) → AreBytes s → AreBytes k →
+        state ≡ map inner s → key ≡ plus k (replicate 16 0x63) →
+        result ≡ plus (shift_rows (sub_bytes s)) k }
 {
-    word_of(
-        s_box(byte0(a)),
-        s_box(byte1(b)),
-        s_box(byte2(c)),
-        s_box(byte3(d)),
-    ) ^ key
-}
-
-/// A round with MixColumns.
-fn round(s: [u32; 4], key: [u32; 4]) -> [u32; 4]
-    ensures { bytes_of result ≡ plus (mix_columns (shift_rows (sub_bytes (bytes_of s)))) (bytes_of key) }
-{
-    let [a, b, c, d] = s;
-    [
-        column(a, b, c, d, key[0]),
-        column(b, c, d, a, key[1]),
-        column(c, d, a, b, key[2]),
-        column(d, a, b, c, key[3]),
-    ]
-}
-
-/// The last round.
-fn last_round(s: [u32; 4], key: [u32; 4]) -> [u32; 4]
-    ensures { bytes_of result ≡ plus (shift_rows (sub_bytes (bytes_of s))) (bytes_of key) }
-{
-    let [a, b, c, d] = s;
-    [
-        last_column(a, b, c, d, key[0]),
-        last_column(b, c, d, a, key[1]),
-        last_column(c, d, a, b, key[2]),
-        last_column(d, a, b, c, key[3]),
-    ]
+    summed(LAST_FIRST, LAST_SECOND, places(state)).swizzle(SHIFTED) ^ key
 }
 
 /// The four words of round key `r`.
@@ -71,18 +68,6 @@ fn key_at(words: &[u32; WORDS], r: usize) -> [u32; 4]
         words[4 * r + 1],
         words[4 * r + 2],
         words[4 * r + 3],
-    ]
-}
-
-/// The first AddRoundKey.
-fn first_state(block: [u8; 16], key: [u32; 4]) -> [u32; 4]
-    ensures { bytes_of result ≡ plus block (bytes_of key) }
-{
-    [
-        word_of(block[0], block[1], block[2], block[3]) ^ key[0],
-        word_of(block[4], block[5], block[6], block[7]) ^ key[1],
-        word_of(block[8], block[9], block[10], block[11]) ^ key[2],
-        word_of(block[12], block[13], block[14], block[15]) ^ key[3],
     ]
 }
 
@@ -111,15 +96,36 @@ fn block_of(s: [u32; 4]) -> [u8; 16]
     ]
 }
 
+/// Bytes as a vector.
+#[inline(always)]
+fn vector_of(bytes: [u8; 16]) -> u8x16
+    ensures same { result ≡ bytes }
+    ensures bytes { AreBytes result }
+{
+    u8x16::from_array(bytes)
+}
+
+/// Round key `r`.
+#[inline(always)]
+fn round_key_at(words: &[u32; WORDS], r: usize) -> u8x16
+    requires { r < 15 }
+    ensures key { (w : List (List ℕ)) → Begins words.now w (4 * r + 4) → result ≡ round_key w r }
+    ensures bytes { AreBytes result }
+{
+    vector_of(block_of(key_at(words, r)))
+}
+
 /// The cipher of `rounds` rounds on a block, with the words of a key schedule.
 pub fn encrypted(words: &[u32; WORDS], rounds: usize, block: [u8; 16]) -> [u8; 16]
     requires { (1 ≤ rounds) × (rounds < 15) }
     ensures { (w : List (List ℕ)) → Begins words.now w (4 * rounds + 4) → result ≡ cipher w rounds block }
 {
-    let mut s = first_state(block, key_at(words, 0));
+    let mut state = inner_form(vector_of(block) ^ round_key_at(words, 0));
     for r in 1..rounds {
-        let next = round(s, key_at(words, r));
-        s = next;
+        let key = inner_form(round_key_at(words, r) ^ u8x16::splat(0x63));
+        let next = round(state, key);
+        state = next;
     }
-    block_of(last_round(s, key_at(words, rounds)))
+    let key = round_key_at(words, rounds) ^ u8x16::splat(0x63);
+    last_round(state, key).to_array()
 }

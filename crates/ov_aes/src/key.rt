@@ -7,6 +7,7 @@ ghost use Rattle.ov_aes.specs.Cipher.{aes};
 use crate::cipher::encrypted;
 use crate::key_bytes::{KeyBytes, KeyLength};
 use crate::key_schedule::{WORDS, expand};
+use std::fmt;
 use std::marker::Model;
 
 /// A key of AES with its key schedule. Contracts see it as the bytes of the key.
@@ -37,6 +38,14 @@ impl Model for AesKey {
     ghost inverse = { λ k. record { key = k; words = words_of (key_list k); rounds = length (key_list k) / 4 + 6 } };
 
     ghost inverse_ok = { λ a h. λ i. record { key = a.key; words = h.0 i; rounds = h.2 i } };
+}
+
+/// The key prints as its kind and its length, with no byte of it and no round key.
+impl fmt::Debug for AesKey {
+    fn fmt<W: fmt::Write>(&self, f: &mut fmt::Formatter<W>) -> fmt::Result {
+        let key = &self.key;
+        write!(f, "AesKey({key:?})")
+    }
 }
 
 impl AesKey {

@@ -3,10 +3,11 @@
 ghost use Rattle.std.specs.Prelude.{◌≡◌, ◌↔◌, length, IfOk, IfErr, IsOk};
 ghost use Rattle.ov_aes.specs.Aes.{IsKeyLength, key_list};
 
+use std::fmt;
 use thiserror::Error;
 
 /// The bytes of a key of AES, of one of the lengths of FIPS 197, section 5.
-#[derive(Clone, Copy, Debug, PartialEq, Eq)]
+#[derive(Clone, Copy, PartialEq, Eq)]
 pub enum KeyBytes {
     /// A key of 16 bytes, for 10 rounds.
     K16([u8; 16]),
@@ -20,6 +21,17 @@ pub enum KeyBytes {
 #[derive(Clone, Copy, Debug, PartialEq, Eq, Error)]
 #[error("a key of {0} bytes, not of 16, 24 or 32")]
 pub struct KeyLength(pub usize);
+
+/// A key prints as its kind and its length in bits, with no byte of it.
+impl fmt::Debug for KeyBytes {
+    fn fmt<W: fmt::Write>(&self, f: &mut fmt::Formatter<W>) -> fmt::Result {
+        match self {
+            KeyBytes::K16(_) => write!(f, "KeyBytes(128 bits)"),
+            KeyBytes::K24(_) => write!(f, "KeyBytes(192 bits)"),
+            KeyBytes::K32(_) => write!(f, "KeyBytes(256 bits)"),
+        }
+    }
+}
 
 impl KeyBytes {
     /// The key of these bytes. `KeyLength` comes exactly where there are not 16, 24 or 32 of them.

@@ -8,8 +8,10 @@ ghost use Rattle.ov_aes.specs.KeySchedule.{changed_word, key_schedule, key_word,
 ghost use Rattle.ov_aes.specs.Aes.{IsKeyLength};
 ghost use Rattle.ov_aes.specs.Words.{Begins, words_of};
 
-use crate::tables::{power, s_box};
+use crate::nibbles::substituted;
+use crate::powers::power;
 use crate::words::{byte0, byte1, byte2, byte3, word_of};
+use std::simd::prelude::*;
 
 /// The most words that a key schedule has: those of 14 rounds and the first round key.
 pub const WORDS: usize = 60;
@@ -18,12 +20,10 @@ pub const WORDS: usize = 60;
 fn sub_word(w: u32) -> u32
     ensures { to_be_bytes w32 result ≡ sub_bytes (to_be_bytes w32 w) }
 {
-    word_of(
-        s_box(byte0(w)),
-        s_box(byte1(w)),
-        s_box(byte2(w)),
-        s_box(byte3(w)),
-    )
+    let [a, b, c, d] = w.to_be_bytes();
+    let bytes = u8x16::from_array([a, b, c, d, 0, 0, 0, 0, 0, 0, 0, 0, 0, 0, 0, 0]);
+    let found = substituted(bytes).to_array();
+    word_of(found[0], found[1], found[2], found[3])
 }
 
 /// SubWord of RotWord, with the round constant of round `round`, from 1 on, in the first byte.
@@ -32,12 +32,8 @@ fn turned(w: u32, round: usize) -> u32
     ensures { to_be_bytes w32 result
         ≡ plus (sub_bytes (rot_word (to_be_bytes w32 w))) (round_constant round) }
 {
-    word_of(
-        s_box(byte1(w)) ^ power(round - 1),
-        s_box(byte2(w)),
-        s_box(byte3(w)),
-        s_box(byte0(w)),
-    )
+    let moved = word_of(byte1(w), byte2(w), byte3(w), byte0(w));
+    sub_word(moved) ^ word_of(power(round - 1), 0, 0, 0)
 }
 
 /// What word `i` adds to the word one key before it, where `before` is word `i - 1`.

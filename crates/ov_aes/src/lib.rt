@@ -6,7 +6,8 @@ mod key;
 mod key_bytes;
 mod key_schedule;
 pub mod laws;
-mod tables;
+mod nibbles;
+mod powers;
 #[cfg(test)]
 mod tests;
 mod words;

@@ -1,4 +1,5 @@
 pub mod Sums
+pub mod Equal
 pub mod Counters
 pub mod Steps
 pub mod Vectors

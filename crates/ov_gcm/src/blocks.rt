@@ -3,10 +3,11 @@
 ghost use Rattle.std.specs.Prelude.{◌≡◌, ℕ, ◌+◌, ◌-◌, ◌*◌, ◌<◌, ◌≤◌, ◌++◌, List, length};
 ghost use Rattle.std.specs.Int.{w64, to_be_bytes};
 ghost use Rattle.ov_aes.specs.Field.{plus};
-ghost use Rattle.ov_ghash.specs.Ghash.{Holds};
+ghost use Rattle.ov_ghash.specs.Block.{ghash};
+ghost use Rattle.ov_ghash.specs.Ghash.{IsPrepared};
 ghost use Rattle.ov_gcm.specs.Gcm.{padded, padded_blocks};
 
-use ov_ghash::Ghash;
+use ov_ghash::HashKey;
 use std::simd::prelude::*;
 
 /// The bytes in a block.
@@ -42,16 +43,19 @@ fn padded_with_zeros(bytes: &[u8]) -> [u8; BLOCK]
     block
 }
 
-/// Appends the blocks of `bytes` to what `hash` holds, the last block padded.
-pub fn absorb(hash: &mut Ghash, bytes: &[u8])
+/// GHASH of blocks and the blocks of `bytes`, the last one padded, where `sum` is GHASH of those before.
+pub fn absorbed(key: &HashKey, sum: [u8; BLOCK], bytes: &[u8]) -> [u8; BLOCK]
     requires { length bytes.now ≤ MOST_BYTES }
-    ensures { (h : List ℕ) (xs : List (List ℕ)) →
-        Holds hash.old h xs → Holds hash.new h (xs ++ padded_blocks bytes.now) }
+    ensures { (h : List ℕ) (xs : List (List ℕ)) → IsPrepared key.now h →
+        ghash h xs ≡ sum → ghash h (xs ++ padded_blocks bytes.now) ≡ result }
 {
+    let mut sum = sum;
     for i in 0..bytes.len().div_ceil(BLOCK) {
         let end = bytes.len().min(BLOCK * i + BLOCK);
-        hash.update(padded_with_zeros(&bytes[BLOCK * i..end]));
+        let next = key.folded(sum, padded_with_zeros(&bytes[BLOCK * i..end]));
+        sum = next;
     }
+    sum
 }
 
 /// The two lengths in bits as a block, that of the associated data first.

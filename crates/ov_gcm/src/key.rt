@@ -1,13 +1,14 @@
 // A key that seals and unseals.
 
-ghost use Rattle.std.specs.Prelude.{◌≡◌, ◌≤◌, ◌↔◌, length, IsOk, IsErr, OnOk, OnErr};
+ghost use Rattle.std.specs.Prelude.{◌≡◌, ◌≤◌, ◌↔◌, length, IsOk, IsErr, IsTrue, OnOk, OnErr};
 ghost use Rattle.ov_aes.specs.Aes.{key_list};
 ghost use Rattle.ov_gcm.specs.Gcm.{seal_text, seal_tag, tag_of, Opens, plain};
 
-use crate::blocks::{BLOCK, MOST_BYTES, absorb, add_block, lengths};
+use crate::blocks::{BLOCK, MOST_BYTES, absorbed, add_block, lengths};
 use crate::stream::{counter_block, crypt};
 use ov_aes::{AesKey, KeyBytes};
-use ov_ghash::Ghash;
+use ov_ghash::HashKey;
+use std::fmt;
 use std::marker::Model;
 use thiserror::Error;
 
@@ -17,12 +18,12 @@ use thiserror::Error;
 pub struct BadTag;
 
 /// A key of AES in Galois/Counter Mode, ready for use. Contracts see it as the bytes of the key. It has
-/// 816 bytes.
+/// 800 bytes.
 #[derive(Clone, Copy)]
 pub struct GcmKey {
     aes: AesKey,
-    // GHASH of no block under the hash subkey.
-    hash: Ghash,
+    // The hash subkey.
+    hash: HashKey,
 }
 
 impl Model for GcmKey {
@@ -30,19 +31,39 @@ impl Model for GcmKey {
 
     ghost Value = { KeyBytes };
 
-    ghost use Rattle.std.specs.Prelude.{◌≡◌, []};
+    ghost use Rattle.std.specs.Prelude.{◌≡◌};
     ghost use Rattle.ov_aes.specs.Aes.{key_list};
-    ghost use Rattle.ov_ghash.specs.Ghash.{Holds, fresh};
+    ghost use Rattle.ov_ghash.specs.Ghash.{IsPrepared, prepared};
     ghost use Rattle.ov_gcm.specs.Gcm.{hash_key};
 
     ghost view = { λ g. g.aes };
 
-    ghost invariant = { λ g. (fresh (hash_key (key_list g.aes)) ≡ g.hash)
-        × Holds g.hash (hash_key (key_list g.aes)) [] };
+    ghost invariant = { λ g. (prepared (hash_key (key_list g.aes)) ≡ g.hash)
+        × IsPrepared g.hash (hash_key (key_list g.aes)) };
 
-    ghost inverse = { λ k. record { aes = k; hash = fresh (hash_key (key_list k)) } };
+    ghost inverse = { λ k. record { aes = k; hash = prepared (hash_key (key_list k)) } };
 
     ghost inverse_ok = { λ a h. λ i. record { aes = a.aes; hash = h.0 i } };
+}
+
+/// The key prints as its kind, with no byte of it and nothing that is computed of it.
+impl fmt::Debug for GcmKey {
+    fn fmt<W: fmt::Write>(&self, f: &mut fmt::Formatter<W>) -> fmt::Result {
+        let aes = &self.aes;
+        write!(f, "GcmKey({aes:?})")
+    }
+}
+
+/// Whether two tags are equal. Every byte of both is looked at, wherever they differ first, so that
+/// the time doesn't tell how much of a forged tag is right.
+fn equal(right: [u8; 16], tag: [u8; 16]) -> bool
+    ensures { IsTrue result ↔ (right ≡ tag) }
+{
+    let mut differing = 0;
+    for i in 0..16 {
+        differing |= right[i] ^ tag[i];
+    }
+    differing == 0
 }
 
 impl GcmKey {
@@ -51,7 +72,7 @@ impl GcmKey {
         ensures { result ≡ key.now }
     {
         let aes = AesKey::of(*key);
-        let hash = Ghash::new(aes.encrypt([0; BLOCK]));
+        let hash = HashKey::new(aes.encrypt([0; BLOCK]));
         GcmKey { aes, hash }
     }
 
@@ -84,7 +105,7 @@ impl GcmKey {
         ensures unchanged { OnErr result (text.new ≡ text.old) }
     {
         let right = self.tag(nonce, ad, text);
-        if right != tag {
+        if !equal(right, tag) {
             return Err(BadTag);
         }
         crypt(&self.aes, nonce, text);
@@ -97,11 +118,9 @@ impl GcmKey {
         requires text { length text.now ≤ MOST_BYTES }
         ensures { result ≡ tag_of (key_list self.now) nonce ad.now text.now }
     {
-        let mut hash = self.hash;
-        absorb(&mut hash, ad);
-        absorb(&mut hash, text);
-        hash.update(lengths(ad.len(), text.len()));
-        let mut tag = hash.finish();
+        let of_ad = absorbed(&self.hash, [0; BLOCK], ad);
+        let of_text = absorbed(&self.hash, of_ad, text);
+        let mut tag = self.hash.folded(of_text, lengths(ad.len(), text.len()));
         add_block(&mut tag, self.aes.encrypt(counter_block(nonce, 0)));
         tag
     }

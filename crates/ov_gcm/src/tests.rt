@@ -122,3 +122,12 @@ fn a_tag_that_is_wrong_in_one_byte_is_bad(rt: HostRuntime) {
         assert_eq!(rt; text, sealed);
     }
 }
+
+#[test]
+fn a_key_prints_none_of_its_bytes(rt: HostRuntime) -> Result<(), Fail> {
+    let bytes = KeyBytes::K32([0xa5; 32]);
+    let key = GcmKey::new(&bytes);
+    let printed = format!(in rt.alloc(); "{key:?}")?;
+    assert_eq!(rt; printed.as_str(), "GcmKey(AesKey(KeyBytes(256 bits)))");
+    Ok(())
+}

@@ -109,11 +109,11 @@ part-bit (suc (suc b)) h small = absurd (omega arith)
 mod-bit : (n v : ℕ) → v % 2 ^ suc n ≡ bit_at v n * 2 ^ n + v % 2 ^ n
 mod-bit n v = ap (λ (x : ℕ). v % 2 ^ x) (sym (one-add n)) ∙ mod-pow-add v 1 n
 
-split_times : (b r x y z : ℕ) → x ≡ y * z → b * x + r * z ≡ (b * y + r) * z
+pub split_times : (b r x y z : ℕ) → x ≡ y * z → b * x + r * z ≡ (b * y + r) * z
 split_times b r x y z e = rw e (omega arith)
 
 -- the polynomial of n bits as a block: its highest coefficients are the block's first bits
-horner-bits-more : (n m v : ℕ) → n + m ≡ 128 → horner (bits n v) (2 ^ 127) ≡ v % 2 ^ n * 2 ^ m
+pub horner-bits-more : (n m v : ℕ) → n + m ≡ 128 → horner (bits n v) (2 ^ 127) ≡ v % 2 ^ n * 2 ^ m
 unfolding bits horner
 horner-bits-more zero m v e = sym (ap (λ (x : ℕ). x * 2 ^ m) (mod-one v) ∙ zero-mul (2 ^ m))
 horner-bits-more (suc n) m v e =

@@ -8,7 +8,6 @@ use Rattle.std.specs.List.{range_with_len}
 use Rattle.std.specs.Int.Bits.{xor_shifted, xor_zero_r}
 use Rattle.ov_ghash.specs.Block.{bits}
 use Rattle.ov_ghash.specs.Turn.{turn, turns, part, horner, products}
-use Rattle.ov_ghash.specs.declared.table.TheConstants.{REDUCED}
 use Rattle.ov_ghash.proofs.Turning.{horner-plus, horner-append, horner-turns}
 use Rattle.ov_ghash.proofs.BitLists.{length-bits, plus-bits, bits_split, bits-mod}
 
@@ -78,13 +77,3 @@ horner_2 h = ap (λ v. turn (turn v)) (sym (xor_zero_r h))
 pub horner_1 : (h : ℕ) → turn (turn (turn h)) ≡ horner (bits 4 1) h
 unfolding bits horner part turn
 horner_1 h = ap (λ v. turn (turn (turn v))) (sym (xor_zero_r h))
-
-reduced-all : map (λ n. get_or REDUCED n 0 * 2 ^ 112 % 2 ^ 128) (range_with_len 0 256) ≡ map (λ n. turns 8 n) (range_with_len 0 256)
-unfolding turns turn
-reduced-all = refl
-
--- the table has what eight turns make of each byte
-pub reduced-is : (n : ℕ) → n < 256 → get_or REDUCED n 0 * 2 ^ 112 % 2 ^ 128 ≡ turns 8 n
-reduced-is n below =
-    sym (get_or-map-range_with_len (λ n. get_or REDUCED n 0 * 2 ^ 112 % 2 ^ 128) 0 256 n n 0 below (zero-add n))
-    ∙ ap (λ xs. get_or xs n 0) reduced-all ∙ get_or-map-range_with_len (λ n. turns 8 n) 0 256 n n 0 below (zero-add n)

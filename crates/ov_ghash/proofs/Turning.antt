@@ -88,7 +88,7 @@ unfolding turns
 horner-turns zero p h = refl
 horner-turns (suc k) p h = horner-turn p (turns k h) ∙ ap turn (horner-turns k p h)
 
-horner-zero : (p : List Bool) → horner p 0 ≡ 0
+pub horner-zero : (p : List Bool) → horner p 0 ≡ 0
 unfolding horner part turn
 horner-zero [] = refl
 horner-zero (true ∷ p) = rw (horner-zero p) refl

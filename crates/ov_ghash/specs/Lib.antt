@@ -1,4 +1,5 @@
 pub mod Polynomial
 pub mod Block
 pub mod Turn
+pub mod Rows
 pub mod Ghash

@@ -1,8 +1,11 @@
-use Rattle.std.proofs.Common.{◌≡◌, ℕ, zero, suc, ◌+◌, ◌-◌, ◌*◌, ◌≤◌, List, refl, ap, ◌∙◌, sym, arith}
+use Rattle.std.proofs.Common.{◌≡◌, ℕ, zero, suc, ◌+◌, ◌-◌, ◌*◌, ◌≤◌, ◌<◌, List, length, get_or, map, refl, replicate, ap, ◌∙◌, sym, subst, arith, rules}
+use Rattle.std.proofs.lemmas.Simd.{Each1-from_get_or}
 use Rattle.ov_aes.specs.Field.{plus}
 use Rattle.ov_aes.specs.SBox.{sub_bytes}
 use Rattle.ov_aes.specs.Cipher.{after_round, cipher, mix_columns, shift_rows, round_key}
+use Rattle.ov_aes.specs.Nibbles.{AreBytes, inner}
 use Rattle.ov_aes.specs.Words.{Begins}
+use Rattle.ov_aes.proofs.RoundFacts.{bytes-plus, bytes-round}
 use Rattle.ov_aes.proofs.cipher.encrypted.Goals as goal
 
 -- fewer words of a key schedule
@@ -17,21 +20,36 @@ after_round-one w s (suc n) least = let e : suc n - 1 ≡ n = omega arith in rw 
 pub loop-r-init : goal.loop-r-init
 unfolding after_round
 loop-r-init c = λ w begins.
-    c.first_state-s.ensures
-    ∙ ap (λ key. plus c.args.block key) (c.key_at.ensures w (fewer c.args.words.now w (4 * 0 + 4) (4 * c.args.rounds + 4) (omega arith) begins))
+    let same = c.vector_of.ensures.same in
+    let block = subst AreBytes same c.vector_of.ensures.bytes in
+    let key = c.round_key_at.ensures.key w (fewer c.args.words.now w (4 * 0 + 4) (4 * c.args.rounds + 4) (omega arith) begins) in
+    let bytes = subst AreBytes key c.round_key_at.ensures.bytes in (
+      bytes-plus c.args.block (round_key w 0) block bytes,
+      c.inner_form-state.ensures ∙ (λ t. map inner (plus (same t) (key t))),
+    )
 
 pub loop-r-preserved : goal.loop-r-preserved
 loop-r-preserved c = λ w begins.
-    let next : c.loop-r.r + 1 - 1 ≡ c.loop-r.r = omega arith in
-    c.round-next.ensures
-    ∙ (λ i. plus (mix_columns (shift_rows (sub_bytes (c.loop-r.invariant w begins i))))
-    (c.key_at-in-loop-r.ensures w (fewer c.args.words.now w (4 * c.loop-r.r + 4) (4 * c.args.rounds + 4) (omega arith) begins) i))
-    ∙ after_round-one w c.args.block c.loop-r.r (omega arith) ∙ ap (after_round w c.args.block) (sym next)
+    let r : ℕ = c.loop-r.r in
+    let next : r + 1 - 1 ≡ r = omega arith in
+    let before : List ℕ = after_round w c.args.block (r - 1) in
+    let state = c.loop-r.invariant w begins in
+    let key = c.round_key_at-in-loop-r.ensures.key w (fewer c.args.words.now w (4 * r + 4) (4 * c.args.rounds + 4) (omega arith) begins) in
+    let bytes = subst AreBytes key c.round_key_at-in-loop-r.ensures.bytes in
+    let after = after_round-one w c.args.block r (omega arith) ∙ ap (after_round w c.args.block) (sym next) in (
+      subst AreBytes after (bytes-round before (round_key w r) state.0 bytes),
+      c.round-next.ensures before (round_key w r) state.0 bytes state.1
+          (c.inner_form-key.ensures ∙ ap (λ k. map inner (plus k (replicate 16 0x63))) key)
+          ∙ ap (map inner) after,
+    )
 
 pub returns : goal.returns
 unfolding cipher
 returns c = λ w begins.
     let last : c.loop-r.r ≡ c.args.rounds = omega arith in
-    let state = c.loop-r.invariant w begins ∙ ap (λ r. after_round w c.args.block (r - 1)) last in
-    c.block_of.ensures ∙ c.last_round.ensures
-    ∙ (λ i. plus (shift_rows (sub_bytes (state i))) (c.key_at-2.ensures w begins i))
+    let before : List ℕ = after_round w c.args.block (c.args.rounds - 1) in
+    let state = subst (λ r. AreBytes (after_round w c.args.block (r - 1)) × (c.loop-r.state ≡ map inner (after_round w c.args.block (r - 1)))) last (c.loop-r.invariant w begins) in
+    let key = c.round_key_at-2.ensures.key w begins in
+    let bytes = subst AreBytes key c.round_key_at-2.ensures.bytes in
+    c.last_round.ensures before (round_key w c.args.rounds) state.0 bytes state.1
+    (ap (λ k. plus k (replicate 16 0x63)) key)

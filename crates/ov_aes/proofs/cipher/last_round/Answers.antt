@@ -1,9 +1,7 @@
-use Rattle.std.proofs.Common.{◌++◌}
-use Rattle.ov_aes.specs.SBox.{sub_bytes}
-use Rattle.ov_aes.specs.Cipher.{shift_rows}
+use Rattle.ov_aes.proofs.RoundFacts.{last_round-is}
 use Rattle.ov_aes.proofs.cipher.last_round.Goals as goal
 
 pub returns : goal.returns
-unfolding shift_rows sub_bytes
-returns c =
-    λ i. c.last_column.ensures i ++ (c.last_column-2.ensures i ++ (c.last_column-3.ensures i ++ c.last_column-4.ensures i))
+returns c = λ s k bytes_s bytes_k state_is key_is.
+    last_round-is s k c.args.state c.summed.result c.args.key bytes_s bytes_k state_is
+    (c.summed.ensures c.args.state c.places.ensures.first c.places.ensures.second) key_is

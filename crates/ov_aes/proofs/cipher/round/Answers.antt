@@ -1,9 +1,8 @@
-use Rattle.std.proofs.Common.{◌++◌}
-use Rattle.ov_aes.specs.SBox.{sub_bytes}
-use Rattle.ov_aes.specs.Cipher.{mix_column, mix_columns, shift_rows}
+use Rattle.ov_aes.proofs.RoundFacts.{round-is}
 use Rattle.ov_aes.proofs.cipher.round.Goals as goal
 
 pub returns : goal.returns
-unfolding mix_column mix_columns shift_rows sub_bytes
-returns c =
-    λ i. c.column.ensures i ++ (c.column-2.ensures i ++ (c.column-3.ensures i ++ c.column-4.ensures i))
+returns c = λ s k bytes_s bytes_k state_is key_is.
+    round-is s k c.args.state c.summed-once.result c.summed-twice.result c.args.key bytes_s bytes_k state_is
+    (c.summed-once.ensures c.args.state c.places-found.ensures.first c.places-found.ensures.second)
+    (c.summed-twice.ensures c.args.state c.places-found.ensures.first c.places-found.ensures.second) key_is

@@ -1,7 +1,12 @@
-use Rattle.ov_aes.specs.SBox.{sub_bytes}
+use Rattle.std.proofs.Common.{ℕ, List, [], ◌∷◌, get_or, ◌∙◌}
+use Rattle.ov_aes.specs.SBox.{sub_byte, sub_bytes}
 use Rattle.ov_aes.proofs.key_schedule.sub_word.Goals as goal
 
 pub returns : goal.returns
 unfolding sub_bytes
 returns c =
-    rw (c.s_box.ensures, c.s_box-2.ensures, c.s_box-3.ensures, c.s_box-4.ensures, c.byte0.ensures, c.byte1.ensures, c.byte2.ensures, c.byte3.ensures) at c.word_of.ensures
+    let found = c.substituted.ensures in
+    let bytes = c.to_be_bytes.ensures in
+    c.word_of.ensures
+    ∙ (λ t. get_or (found t) 0 0 ∷ get_or (found t) 1 0 ∷ get_or (found t) 2 0 ∷ get_or (found t) 3 0 ∷ [])
+    ∙ (λ t. sub_byte (get_or (bytes t) 0 0) ∷ sub_byte (get_or (bytes t) 1 0) ∷ sub_byte (get_or (bytes t) 2 0) ∷ sub_byte (get_or (bytes t) 3 0) ∷ [])

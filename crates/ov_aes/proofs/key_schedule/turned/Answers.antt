@@ -1,8 +1,13 @@
-use Rattle.std.specs.Int.Bits.{xor_zero_r}
+use Rattle.std.proofs.Common.{ℕ, List, [], ◌∷◌, ◌∙◌}
+use Rattle.ov_aes.specs.Field.{plus}
 use Rattle.ov_aes.specs.SBox.{sub_bytes}
+use Rattle.ov_aes.specs.KeySchedule.{round_constant}
+use Rattle.ov_aes.proofs.Bytes.{to_be_bytes-xor}
 use Rattle.ov_aes.proofs.key_schedule.turned.Goals as goal
 
 pub returns : goal.returns
-unfolding sub_bytes
 returns c =
-    simp xor_zero_r (rw (c.s_box.ensures, c.s_box-2.ensures, c.s_box-3.ensures, c.s_box-4.ensures, c.byte0.ensures, c.byte1.ensures, c.byte2.ensures, c.byte3.ensures, c.power.ensures) at c.word_of.ensures)
+    to_be_bytes-xor c.sub_word.result c.word_of.result
+    ∙ (λ t. plus (c.sub_word.ensures t) (c.word_of.ensures t))
+    ∙ (λ t. plus (sub_bytes (c.word_of-moved.ensures t)) (c.power.ensures t ∷ 0 ∷ 0 ∷ 0 ∷ []))
+    ∙ (λ t. plus (sub_bytes (c.byte1.ensures t ∷ c.byte2.ensures t ∷ c.byte3.ensures t ∷ c.byte0.ensures t ∷ [])) (round_constant c.args.round))

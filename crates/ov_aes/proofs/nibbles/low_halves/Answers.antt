@@ -1,0 +1,5 @@
+use Rattle.std.proofs.lemmas.Simd.{zip2_splat}
+use Rattle.ov_aes.proofs.nibbles.low_halves.Goals as goal
+
+pub returns : goal.returns
+returns c = zip2_splat _ c.args.bytes 16 15 c.fits-bytes.0

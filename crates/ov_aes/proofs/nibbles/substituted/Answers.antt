@@ -1,0 +1,12 @@
+use Rattle.std.proofs.Common.{ℕ, List, length, map, bit_xor, ap, ◌∙◌}
+use Rattle.std.proofs.lemmas.Simd.{zip2_splat}
+use Rattle.ov_aes.specs.SBox.{sub_byte, sub_bytes}
+use Rattle.ov_aes.specs.Nibbles.{inner}
+use Rattle.ov_aes.proofs.NibbleFacts.{bytes-of}
+use Rattle.ov_aes.proofs.RoundFacts.{last, last-bytes}
+use Rattle.ov_aes.proofs.nibbles.substituted.Goals as goal
+
+pub returns : goal.returns
+returns c =
+    last-bytes c.args.bytes c.inner_form.result c.summed.result (bytes-of c.args.bytes c.fits-bytes.0 c.fits-bytes.1)
+    c.inner_form.ensures (c.summed.ensures c.inner_form.result c.places.ensures.first c.places.ensures.second)

@@ -1,5 +1,0 @@
-use Rattle.ov_aes.proofs.TableFacts.{power-is}
-use Rattle.ov_aes.proofs.tables.power.Goals as goal
-
-pub returns : goal.returns
-returns c = power-is c.args.n c.requires

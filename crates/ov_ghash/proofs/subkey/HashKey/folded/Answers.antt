@@ -1,0 +1,15 @@
+use Rattle.std.proofs.Common.{◌≡◌, ℕ, ◌<◌, length, get_or, sym, ap, ◌∙◌, arith, rules}
+use Rattle.std.specs.Int.{w128, to_be_bytes}
+use Rattle.ov_ghash.specs.Ghash.{IsPrepared}
+use Rattle.ov_ghash.proofs.Held.{ghash-more}
+use Rattle.ov_ghash.proofs.subkey.HashKey.folded.Goals as goal
+
+pub returns : goal.returns
+unfolding IsPrepared
+returns c = λ h xs is so_far.
+    let long_sum : length c.args.sum ≡ 16 = search rules in
+    let long_block : length c.args.block ≡ 16 = search rules in
+    let small_sum : (k : ℕ) → get_or c.args.sum k 0 < 256 = search rules in
+    let small_block : (k : ℕ) → get_or c.args.block k 0 < 256 = search rules in
+    ghash-more h c.args.sum c.args.block xs is.0 long_sum long_block small_sum small_block so_far
+    ∙ ap (to_be_bytes w128) (sym (c.multiplied.ensures h is)) ∙ sym c.to_be_bytes.ensures
