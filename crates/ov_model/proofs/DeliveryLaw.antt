@@ -21,6 +21,7 @@ use Rattle.ov_model.specs.declared.reply.Reply.{Reply}
 use Rattle.ov_model.specs.declared.reply.Reply.TheVariants as reply
 use Rattle.ov_model.specs.declared.reply.Settled.{Settled}
 use Rattle.ov_model.specs.declared.reply.Settled.TheVariants as settled
+use Rattle.ov_model.specs.declared.replay.ReplayEntry.{ReplayEntry}
 use Rattle.ov_model.specs.declared.replay.Verdict.TheVariants.{Accept}
 use Rattle.ov_model.specs.declared.replay.Refusal.{Refusal}
 use Rattle.ov_model.specs.declared.replay.Refusal.TheVariants as refusal
@@ -42,8 +43,8 @@ use Rattle.ov_model.specs.Events.{Step, Judgement, of, shown_in, steps_of, step_
 use Rattle.ov_model.specs.Path.{first, begins_rx, rx_look_by, packet_in, kind_via, settle_act, UseFits, refused_as, hold_owed, Row, AtOnce, Commanded, Missed, Held, IsMiss, RowFits, use_steps, use_judgements, row_steps, row_judgements, row_answer}
 use Rattle.ov_model.specs.Keys.{key_of}
 use Rattle.ov_model.specs.Legal.{Meets, Legal}
-use Rattle.ov_model.specs.Laws.{answer_at}
-use Rattle.ov_model.specs.Delivery.{Receives, IsReceived, IsSettle, table_before, Delivers}
+use Rattle.ov_model.specs.Laws.{HasDeed, Receives, LooksUp, judged_at, answer_at, AcceptsOnce}
+use Rattle.ov_model.specs.Delivery.{IsReceived, IsSettleOf, table_before, Delivers, DeliveredUnder, DeliversOnce}
 use Rattle.ov_model.proofs.Lanes.{all_append, here}
 use Rattle.ov_model.proofs.NonceLaw.{InLane, in_lane}
 use Rattle.ov_model.proofs.SealedLaw.{IsMade, at_once_not_made}
@@ -108,17 +109,17 @@ owner_delivers peer k live source owner kind found owns = rw (kind, found, eq-eq
 
 -- ---- how a received datagram's line begins
 
-look_begins : (id : Option PeerId) (key : Option KeyId) (from : Transport) (a : Act) → rx_look_by id key from ≡ first a → IsSettle a → ⊥
-look_begins None None from a is settles = cc
-look_begins None (Some k) from a is settles = cc
-look_begins (Some i) None from a is settles = cc
-look_begins (Some i) (Some k) from a is settles = let its : a ≡ act.RxLook i k from = cc in subst IsSettle its settles
+look_begins : (peer : ℕ) (id : Option PeerId) (key : Option KeyId) (from : Transport) (a : Act) → rx_look_by id key from ≡ first a → IsSettleOf peer a → ⊥
+look_begins peer None None from a is settles = cc
+look_begins peer None (Some k) from a is settles = cc
+look_begins peer (Some i) None from a is settles = cc
+look_begins peer (Some i) (Some k) from a is settles = let its : a ≡ act.RxLook i k from = cc in subst (IsSettleOf peer) its settles
 
-rx_begins : (from : Transport) (head : HeadKind) (a : Act) → begins_rx from head ≡ first a → IsSettle a → ⊥
-rx_begins from short a is settles = cc
-rx_begins from data_v1 a is settles = cc
-rx_begins from control a is settles = cc
-rx_begins from (data_v2 id key n) a is settles = look_begins (peer_id id) (key_id key) from a is settles
+rx_begins : (peer : ℕ) (from : Transport) (head : HeadKind) (a : Act) → begins_rx from head ≡ first a → IsSettleOf peer a → ⊥
+rx_begins peer from short a is settles = cc
+rx_begins peer from data_v1 a is settles = cc
+rx_begins peer from control a is settles = cc
+rx_begins peer from (data_v2 id key n) a is settles = look_begins peer (peer_id id) (key_id key) from a is settles
 
 no_command_by : (id : Option PeerId) (key : Option KeyId) (from : Transport) (c : Command) → rx_look_by id key from ≡ first (act.Do c) → ⊥
 no_command_by None None from c is = cc
@@ -191,9 +192,21 @@ line_path script start report legal lane line from bytes a receives at =
 
 -- ---- delivered: what the report shows
 
--- What a delivered line's path and run give.
-pub delivered_shows : (script : Script) (start : ℕ) (report : Report) → Legal script start report → (lane line : ℕ) (from : Transport) (bytes : List ℕ) (a : Answer) → Receives report lane line from bytes → answer_at report.lanes lane line ≡ Some a → (id : PeerId) (packet : List ℕ) → a ≡ answer.Delivered id packet → Delivers report lane line bytes id packet
-delivered_shows script start report legal lane line from bytes a receives at id packet is =
+-- The look-up and the settling of a delivered line, and its replay step.
+record DeliveredLine (report : Report) (lane line : ℕ) (bytes : List ℕ) (id : PeerId) (packet : List ℕ) : Type 0 where
+  at : ℕ
+  x : Act
+  h : HoldView
+  m : Material
+  os : List Owed
+  id_is : h.id ≡ id
+  material_is : key_of report.journal h.key ≡ Some m
+  opens : opened m.decrypt bytes ≡ Some packet
+  steps : of (steps_of report.journal) lane line ≡ step_of (record { lane = lane; line = line }) at x (reply.Hold h) [] ∷ step_of (record { lane = lane; line = line }) at (settle_act (λ b. b) h packet bytes) (reply.Settled settled.Deliver) [] ∷ releases (record { lane = lane; line = line }) at os
+  judgements : shown_in report.shards lane line ≡ record { place = record { lane = lane; line = line }; key = h.key; id = packet_id_of bytes; at = at; verdict = Accept } ∷ []
+
+delivered_line : (script : Script) (start : ℕ) (report : Report) → Legal script start report → (lane line : ℕ) (from : Transport) (bytes : List ℕ) (a : Answer) → Receives report lane line from bytes → answer_at report.lanes lane line ≡ Some a → (id : PeerId) (packet : List ℕ) → a ≡ answer.Delivered id packet → DeliveredLine report lane line bytes id packet
+delivered_line script start report legal lane line from bytes a receives at id packet is =
     let material : ℕ → Option Material = key_of report.journal in
     let via : Addr → Addr = λ b. b in
     let place : Place = record { lane = lane; line = line } in
@@ -201,45 +214,59 @@ delivered_shows script start report legal lane line from bytes a receives at id 
     let row : DeliveredRow material path.its path.row id packet = delivered_row material via path.its id packet path.row path.fits (sym is ∙ path.answer_is) in
     let some : IsSome (opened row.m.decrypt bytes) = subst (λ (d : Deed). UseFits d row.m (used.Settled settled.Deliver)) path.deed_is row.fits in
     let packet_is : unwrap_or (opened row.m.decrypt bytes) [] ≡ packet = ap (λ (d : Deed). packet_in d row.m) (sym path.deed_is) ∙ row.packet_is in
-    let opens : opened row.m.decrypt bytes ≡ Some packet = opens_to (opened row.m.decrypt bytes) packet some packet_is in
     let look : Step = step_of place path.its.at row.a (reply.Hold row.h) [] in
-    let settles : Step = step_of place path.its.at (settle_act via row.h (packet_in (deed.Rx from bytes) row.m) bytes) (reply.Settled settled.Deliver) [] in
+    let settles : List ℕ → Step = λ inner. step_of place path.its.at (settle_act via row.h inner bytes) (reply.Settled settled.Deliver) [] in
     let gives : List Step = releases place path.its.at (hold_owed row.h row.key row.peer) in
-    let steps : of (steps_of report.journal) lane line ≡ look ∷ settles ∷ gives = path.steps_are ∙ ap (λ (r : Row). row_steps via place path.its r) row.row_is
-    ∙ ap (λ (d : Deed). look ∷ (use_steps via place path.its.at d row.h row.m (used.Settled settled.Deliver) ++ gives)) path.deed_is in
-    let judgement : Judgement = record { place = place; key = row.h.key; id = packet_id_of bytes; at = path.its.at; verdict = Accept } in
-    let judgements : shown_in report.shards lane line ≡ judgement ∷ [] = path.judgements_are ∙ ap (λ (r : Row). row_judgements place path.its r) row.row_is
-    ∙ ap (λ (d : Deed). use_judgements place path.its.at d row.h (used.Settled settled.Deliver)) path.deed_is in
-    let look_at : EntryAt report.journal look.entry = step_entry empty_table report.journal lane line 0 look (ap (λ (ss : List Step). slice_get ss 0) steps) in
-    let settle_at : EntryAt report.journal settles.entry = step_entry empty_table report.journal lane line 1 settles (ap (λ (ss : List Step). slice_get ss 1) steps) in
-    let judged : JudgedAt report.shards judgement = judged_found report.shards lane line 0 judgement (ap (λ (js : List Judgement). slice_get js 0) judgements) in
-    let inner : List ℕ = packet_in (deed.Rx from bytes) row.m in
-    let before : Table = table_before report.journal settle_at.n in
-    let deliver : settled_as row.h.peer (kind_via via (kind_of inner)) before.live ≡ settled.Deliver = settled_so report.journal legal.journal.runs settle_at.n settles.entry row.h inner bytes settled.Deliver settle_at.at refl refl in
-    let own : Owned row.h.peer (kind_of inner) before.live = owned row.h.peer (kind_of inner) before.live deliver in
-    let source_is : kind_of packet ≡ from_source own.source = ◌∙◌ {b = kind_of inner} (ap kind_of (sym packet_is)) own.source_is in
     record {
-      hold = row.h;
-      look = look_at.n;
-      look_entry = look.entry;
-      looked = record { at = look_at.at; place = refl };
-      held = refl;
+      at = path.its.at;
+      x = row.a;
+      h = row.h;
+      m = row.m;
+      os = hold_owed row.h row.key row.peer;
       id_is = row.id_is;
-      material = row.m;
       material_is = row.material_is;
-      opens = opens;
+      opens = opens_to (opened row.m.decrypt bytes) packet some packet_is;
+      steps = ◌∙◌ {b = row_steps via place path.its (Held row.a row.h row.m (used.Settled settled.Deliver) row.key row.peer)} (path.steps_are ∙ ap (λ (r : Row). row_steps via place path.its r) row.row_is)
+          (ap (λ (d : Deed). look ∷ (use_steps via place path.its.at d row.h row.m (used.Settled settled.Deliver) ++ gives)) path.deed_is ∙ ap (λ inner. look ∷ settles inner ∷ gives) packet_is);
+      judgements = path.judgements_are ∙ ap (λ (r : Row). row_judgements place path.its r) row.row_is
+          ∙ ap (λ (d : Deed). use_judgements place path.its.at d row.h (used.Settled settled.Deliver)) path.deed_is;
+    }
+
+-- What a delivered line's path and run give.
+pub delivered_shows : (script : Script) (start : ℕ) (report : Report) → Legal script start report → (lane line : ℕ) (from : Transport) (bytes : List ℕ) (a : Answer) → Receives report lane line from bytes → answer_at report.lanes lane line ≡ Some a → (id : PeerId) (packet : List ℕ) → a ≡ answer.Delivered id packet → Delivers report lane line bytes id packet
+delivered_shows script start report legal lane line from bytes a receives at id packet is =
+    let place : Place = record { lane = lane; line = line } in
+    let l : DeliveredLine report lane line bytes id packet = delivered_line script start report legal lane line from bytes a receives at id packet is in
+    let look : Step = step_of place l.at l.x (reply.Hold l.h) [] in
+    let settles : Step = step_of place l.at (settle_act (λ b. b) l.h packet bytes) (reply.Settled settled.Deliver) [] in
+    let judgement : Judgement = record { place = place; key = l.h.key; id = packet_id_of bytes; at = l.at; verdict = Accept } in
+    let look_at : EntryAt report.journal look.entry = step_entry empty_table report.journal lane line 0 look (ap (λ (ss : List Step). slice_get ss 0) l.steps) in
+    let settle_at : EntryAt report.journal settles.entry = step_entry empty_table report.journal lane line 1 settles (ap (λ (ss : List Step). slice_get ss 1) l.steps) in
+    let judged : JudgedAt report.shards judgement = judged_found report.shards lane line 0 judgement (ap (λ (js : List Judgement). slice_get js 0) l.judgements) in
+    let before : Table = table_before report.journal settle_at.n in
+    let deliver : settled_as l.h.peer (kind_via (λ b. b) (kind_of packet)) before.live ≡ settled.Deliver = settled_so report.journal legal.journal.runs settle_at.n settles.entry l.h packet bytes settled.Deliver settle_at.at refl refl in
+    let own : Owned l.h.peer (kind_of packet) before.live = owned l.h.peer (kind_of packet) before.live deliver in
+    record {
+      hold = l.h;
+      held = record { n = look_at.n; entry = look.entry; made = record { at = look_at.at; place = refl }; held = refl };
+      id_is = l.id_is;
+      material = l.m;
+      material_is = l.material_is;
+      opens = l.opens;
       shard = judged.shard;
       place = judged.i;
       replay = judged.r;
       judged = judged.at;
       judged_by = ap (λ (j : Judgement). j.place) judged.is;
+      key_is = ap (λ (j : Judgement). j.key) judged.is;
+      packet_id_is = ap (λ (j : Judgement). j.id) judged.is;
       fresh = ap (λ (j : Judgement). j.verdict) judged.is;
       settle = settle_at.n;
       settle_entry = settles.entry;
       settled = record { at = settle_at.at; place = refl };
-      is_settle = tt;
+      settles = refl;
       source = own.source;
-      source_is = source_is;
+      source_is = own.source_is;
       owner = own.owner;
       owner_is = own.owner_is;
       owns = own.owns;
@@ -259,18 +286,18 @@ release_holds : (h : HoldView) (place : Place) (at : ℕ) (o : Owed) → Holds h
 release_holds h place at (owed.Peer p) k is = cc
 release_holds h place at (owed.Key key) k is = cc
 
--- An entry that settles is this one.
-abbrev Settles : Act → Settled → Entry → Type 0
-Settles a s e = IsSettle e.call.act → (e.call.act ≡ a) × (e.reply ≡ reply.Settled s)
+-- An entry that settles a packet of the peer is this one.
+abbrev Settles : ℕ → Act → Settled → Entry → Type 0
+Settles peer a s e = IsSettleOf peer e.call.act → (e.call.act ≡ a) × (e.reply ≡ reply.Settled s)
 
-release_settles : (a : Act) (s : Settled) (place : Place) (at : ℕ) (o : Owed) → Settles a s (release_of place at o).entry
-release_settles a s place at (owed.Peer p) settles = absurd settles
-release_settles a s place at (owed.Key key) settles = absurd settles
+release_settles : (peer : ℕ) (a : Act) (s : Settled) (place : Place) (at : ℕ) (o : Owed) → Settles peer a s (release_of place at o).entry
+release_settles peer a s place at (owed.Peer p) settles = absurd settles
+release_settles peer a s place at (owed.Key key) settles = absurd settles
 
 -- What the entry of the line's look-up is, by the line's steps.
-look_has : (report : Report) (lane line : ℕ) (bytes : List ℕ) (id : PeerId) (packet : List ℕ) (d : Delivers report lane line bytes id packet) (P : Entry → Type 0) (ss : List Step) → of (steps_of report.journal) lane line ≡ ss → AllByRecursion (λ s. P s.entry) ss → P d.look_entry
+look_has : (report : Report) (lane line : ℕ) (bytes : List ℕ) (id : PeerId) (packet : List ℕ) (d : Delivers report lane line bytes id packet) (P : Entry → Type 0) (ss : List Step) → of (steps_of report.journal) lane line ≡ ss → AllByRecursion (λ s. P s.entry) ss → P d.held.entry
 look_has report lane line bytes id packet d P ss steps all =
-    entry_has P empty_table report.journal lane line d.look d.look_entry (subst (λ (l : List Step). AllByRecursion (λ s. P s.entry) l) (sym steps) all) d.looked.at (here lane line d.look_entry.place d.looked.place)
+    entry_has P empty_table report.journal lane line d.held.n d.held.entry (subst (λ (l : List Step). AllByRecursion (λ s. P s.entry) l) (sym steps) all) d.held.made.at (here lane line d.held.entry.place d.held.made.place)
 
 settle_has : (report : Report) (lane line : ℕ) (bytes : List ℕ) (id : PeerId) (packet : List ℕ) (d : Delivers report lane line bytes id packet) (P : Entry → Type 0) (ss : List Step) → of (steps_of report.journal) lane line ≡ ss → AllByRecursion (λ s. P s.entry) ss → P d.settle_entry
 settle_has report lane line bytes id packet d P ss steps all =
@@ -291,8 +318,8 @@ same_hold report lane line bytes id packet d at x h m us os material_is uses ste
     let place : Place = record { lane = lane; line = line } in
     let gives : AllByRecursion (λ s. Holds h s.entry) (releases place at os) = all_released (Holds h) place at (release_holds h place at) os in
     let look : Holds h (step_of place at x (reply.Hold h) []).entry = λ k is. cc in
-    let held : Holds h d.look_entry = look_has report lane line bytes id packet d (Holds h) _ steps (look, all_append (λ s. Holds h s.entry) us (releases place at os) uses gives) in
-    let same : d.hold ≡ h = held d.hold d.held in
+    let held : Holds h d.held.entry = look_has report lane line bytes id packet d (Holds h) _ steps (look, all_append (λ s. Holds h s.entry) us (releases place at os) uses gives) in
+    let same : d.hold ≡ h = held d.hold d.held.held in
     let materials : Some m ≡ Some d.material = sym material_is ∙ ap (λ (w : HoldView). key_of report.journal w.key) (sym same) ∙ d.material_is in
     let material : m ≡ d.material = cc in
     (same, ap (λ (w : Material). opened w.decrypt bytes) material ∙ d.opens)
@@ -310,8 +337,8 @@ showing_row : (report : Report) (lane line : ℕ) (from : Transport) (bytes : Li
 showing_row report lane line from bytes id packet d run own at (AtOnce x) fits steps judgements = absurd (look_has report lane line bytes id packet d (λ e. ⊥) [] steps tt)
 showing_row report lane line from bytes id packet d run own at (Commanded c r taken os) fits steps judgements = absurd (no_command from (head_of bytes) c fits.0)
 showing_row report lane line from bytes id packet d run own at (Missed x r cause) fits steps judgements =
-    let its : d.look_entry.reply ≡ r = look_has report lane line bytes id packet d (λ e. e.reply ≡ r) _ steps (refl, tt) in
-    absurd (subst (λ (w : Reply). IsMiss w cause) (sym its ∙ d.held) fits.2)
+    let its : d.held.entry.reply ≡ r = look_has report lane line bytes id packet d (λ e. e.reply ≡ r) _ steps (refl, tt) in
+    absurd (subst (λ (w : Reply). IsMiss w cause) (sym its ∙ d.held.held) fits.2)
 showing_row report lane line from bytes id packet d run own at (Held x h m (used.Sealed n) key peer) fits steps judgements = absurd fits.2
 showing_row report lane line from bytes id packet d run own at (Held x h m (used.Spent killed) key peer) fits steps judgements = absurd fits.2
 showing_row report lane line from bytes id packet d run own at (Held x h m used.BadTag key peer) fits steps judgements =
@@ -329,9 +356,9 @@ showing_row report lane line from bytes id packet d run own at (Held x h m (used
     let no_hold : Holds h settles.entry = λ k is. cc in
     let both = same_hold report lane line bytes id packet d at x h m (settles ∷ []) (hold_owed h key peer) fits.1 (no_hold, tt) steps in
     let inner_is : inner ≡ packet = ap (λ o. unwrap_or o []) both.1 in
-    let P : Entry → Type 0 = Settles (settle_act via h inner bytes) s in
-    let look : P (step_of place at x (reply.Hold h) []).entry = λ i. absurd (rx_begins from (head_of bytes) x fits.0 i) in
-    let its = settle_has report lane line bytes id packet d P _ steps (look, ((λ _. (refl, refl)), all_released P place at (release_settles (settle_act via h inner bytes) s place at) (hold_owed h key peer))) d.is_settle in
+    let P : Entry → Type 0 = Settles d.hold.peer (settle_act via h inner bytes) s in
+    let look : P (step_of place at x (reply.Hold h) []).entry = λ i. absurd (rx_begins d.hold.peer from (head_of bytes) x fits.0 i) in
+    let its = settle_has report lane line bytes id packet d P _ steps (look, ((λ _. (refl, refl)), all_released P place at (release_settles d.hold.peer (settle_act via h inner bytes) s place at) (hold_owed h key peer))) d.settles in
     let before : Table = table_before report.journal d.settle in
     let deliver : settled_as h.peer (kind_via via (kind_of inner)) before.live ≡ settled.Deliver = owner_delivers h.peer (kind_of inner) before.live d.source d.owner (ap kind_of inner_is ∙ d.source_is) d.owner_is (d.owns ∙ ap (λ (w : HoldView). w.peer) both.0) in
     let same : settled_as h.peer (kind_via via (kind_of inner)) before.live ≡ s = settled_so report.journal run d.settle d.settle_entry h inner bytes s d.settled.at its.0 its.1 in
@@ -367,3 +394,53 @@ delivered_received script start report legal lane line id packet at =
     let same : answer.Delivered id packet ≡ meets.answer = cc in
     let row : DeliveredRow (key_of report.journal) meets.line meets.path.row id packet = delivered_row (key_of report.journal) (λ b. b) meets.line id packet meets.path.row meets.path.fits (same ∙ meets.path.answer_is) in
     settled_deed report lane line x.log meets.line x.log_is meets.line_is meets.line.deed refl row.m row.fits
+
+-- ---- at most once under a key
+
+-- What a delivered line holds is what any of its look-ups held.
+delivered_holds : (report : Report) (lane line : ℕ) (bytes : List ℕ) (id : PeerId) (packet : List ℕ) → (l : DeliveredLine report lane line bytes id packet) → (k : HoldView) → LooksUp report lane line k → k ≡ l.h
+delivered_holds report lane line bytes id packet l k looks =
+    let place : Place = record { lane = lane; line = line } in
+    let P : Entry → Type 0 = Holds l.h in
+    let look : P (step_of place l.at l.x (reply.Hold l.h) []).entry = λ k is. cc in
+    let settles : P (step_of place l.at (settle_act (λ b. b) l.h packet bytes) (reply.Settled settled.Deliver) []).entry = λ k is. cc in
+    let gives : AllByRecursion (λ s. P s.entry) (releases place l.at l.os) = all_released P place l.at (release_holds l.h place l.at) l.os in
+    entry_has P empty_table report.journal lane line looks.n looks.entry (subst (λ (ss : List Step). AllByRecursion (λ s. P s.entry) ss) (sym l.steps) (look, (settles, gives))) looks.made.at (here lane line looks.entry.place looks.made.place) k looks.held
+
+-- The accepted replay step of a line that delivered under a key.
+record AcceptedUnder (report : Report) (lane line key packet_id : ℕ) : Type 0 where
+  shard : ℕ
+  i : ℕ
+  r : ReplayEntry
+  at : judged_at report.shards shard i ≡ Some r
+  place : r.place ≡ record { lane = lane; line = line }
+  key_is : r.key ≡ key
+  id_is : r.id ≡ packet_id
+  accepted : r.verdict ≡ Accept
+
+accepted_under : (script : Script) (start : ℕ) (report : Report) → Legal script start report → (key packet_id lane line : ℕ) → DeliveredUnder report lane line key packet_id → AcceptedUnder report lane line key packet_id
+accepted_under script start report legal key packet_id lane line d =
+    let l : DeliveredLine report lane line d.bytes d.id d.packet = delivered_line script start report legal lane line d.from d.bytes (answer.Delivered d.id d.packet) d.receives d.answered d.id d.packet refl in
+    let judgement : Judgement = record { place = record { lane = lane; line = line }; key = l.h.key; id = packet_id_of d.bytes; at = l.at; verdict = Accept } in
+    let judged : JudgedAt report.shards judgement = judged_found report.shards lane line 0 judgement (ap (λ (js : List Judgement). slice_get js 0) l.judgements) in
+    let same : d.hold ≡ l.h = delivered_holds report lane line d.bytes d.id d.packet l d.hold d.held in
+    record {
+      shard = judged.shard;
+      i = judged.i;
+      r = judged.r;
+      at = judged.at;
+      place = ap (λ (j : Judgement). j.place) judged.is;
+      key_is = ap (λ (j : Judgement). j.key) judged.is ∙ ap (λ (w : HoldView). w.key) (sym same) ∙ d.key_is;
+      id_is = ap (λ (j : Judgement). j.id) judged.is ∙ d.packet_id_is;
+      accepted = ap (λ (j : Judgement). j.verdict) judged.is;
+    }
+
+pub delivers_once : (script : Script) (start : ℕ) (report : Report) → Legal script start report → AcceptsOnce report.shards → DeliversOnce report
+delivers_once script start report legal accepts key packet_id lane line other later d e =
+    let a : AcceptedUnder report lane line key packet_id = accepted_under script start report legal key packet_id lane line d in
+    let b : AcceptedUnder report other later key packet_id = accepted_under script start report legal key packet_id other later e in
+    let same = accepts a.shard b.shard a.i b.i a.r b.r a.at b.at a.accepted b.accepted (a.key_is ∙ sym b.key_is) (a.id_is ∙ sym b.id_is) in
+    let found : Some a.r ≡ Some b.r = sym a.at ∙ ap (λ s. judged_at report.shards s a.i) same.0 ∙ ap (λ i. judged_at report.shards b.shard i) same.1 ∙ b.at in
+    let one : a.r ≡ b.r = cc in
+    let place : ◌≡◌ {A = Place} (record { lane = lane; line = line }) (record { lane = other; line = later }) = sym a.place ∙ ap (λ (r : ReplayEntry). r.place) one ∙ b.place in
+    (ap (λ (p : Place). p.lane) place, ap (λ (p : Place). p.line) place)

@@ -13,8 +13,8 @@ ghost use Rattle.ov_model.specs.Runs.{IsRun, notes_of};
 ghost use Rattle.ov_model.specs.Removals.{RemovalsNoted, AllReleased, EachReleasedOnce};
 ghost use Rattle.ov_model.specs.Legal.{Legal};
 ghost use Rattle.ov_model.specs.Keys.{KeysDiffer};
-ghost use Rattle.ov_model.specs.Laws.{answer_at, AcceptsOnce, IsSealed, SealedUnder, NoncesDiffer};
-ghost use Rattle.ov_model.specs.Delivery.{Receives, IsReceived, Delivers};
+ghost use Rattle.ov_model.specs.Laws.{Receives, answer_at, AcceptsOnce, IsSealed, SealedUnder, NoncesDiffer};
+ghost use Rattle.ov_model.specs.Delivery.{IsReceived, Delivers, DeliversOnce};
 ghost use Rattle.ov_model.specs.Lifetime.{PeersStayReleased, KeysStayReleased};
 
 /// In every run the notes of each removal are those of the removed peers, in order, with the reason,
@@ -25,12 +25,12 @@ pub fn removals()
     ensures released { (journal : List Entry) → IsRun journal → AllReleased journal ↔ EachReleasedOnce journal }
 {}
 
-/// The nonce law: in every legal report each sealed answer's datagram was sealed with the key that the
-/// history installed under the answer's serial, its nonce made of the answer's packet id and that key's
-/// nonce tail. And where no two keys of the history have the same sealing key and tail, no two sealed
+/// The nonce law: in every legal report each sealed answer's datagram holds the packet of its line. It was
+/// sealed with the key that the line's look-up held, as the history installed it; its head names the held
+/// peer and key, its nonce is made of the answer's packet id and that key's nonce tail. And where no two keys of the history have the same sealing key and tail, no two sealed
 /// answers at different places, of whatever lanes, have the same bytes of the key and the same nonce.
 pub fn n1()
-    ensures sealed { (script : Script) (first : ℕ) (report : Report) → Legal script first report → (lane line : ℕ) (s : SealedOut) → IsSealed report lane line s → SealedUnder report s }
+    ensures sealed { (script : Script) (first : ℕ) (report : Report) → Legal script first report → (lane line : ℕ) (s : SealedOut) → IsSealed report lane line s → SealedUnder report lane line s }
     ensures differ { (script : Script) (first : ℕ) (report : Report) → Legal script first report → KeysDiffer report.journal → NoncesDiffer report }
 {}
 
@@ -42,12 +42,19 @@ pub fn n2()
 
 /// The delivery law: in every legal report an answered line that received a datagram is answered with a
 /// packet of a peer exactly where its look-up held that peer and a key of it, the tag verifies under this
-/// key and this is the packet that it opens to, the line's replay step accepted the packet id, and the
-/// peer with the VPN address of the packet's source was this very peer when the packet was settled. No
-/// other line is answered so.
+/// key and this is the packet that it opens to, the line's replay step accepted the datagram's packet id
+/// under this key, and the peer with the VPN address of the packet's source was this very peer when the
+/// packet was settled. No other line is answered so.
 pub fn n3()
     ensures delivered { (script : Script) (first : ℕ) (report : Report) → Legal script first report → (lane line : ℕ) (from : Transport) (bytes : List ℕ) (a : Answer) → Receives report lane line from bytes → answer_at report.lanes lane line ≡ Some a → (id : PeerId) (packet : List ℕ) → (a ≡ Delivered id packet) ↔ Delivers report lane line bytes id packet }
     ensures received { (script : Script) (first : ℕ) (report : Report) → Legal script first report → (lane line : ℕ) (id : PeerId) (packet : List ℕ) → answer_at report.lanes lane line ≡ Some (Delivered id packet) → IsReceived report lane line }
+{}
+
+/// In every legal report any two different lines that are answered with a packet of a received datagram
+/// held different keys, or their datagrams differ in the packet id: under one key a datagram is delivered
+/// at most once, however often and to whatever lanes it comes.
+pub fn delivered_once()
+    ensures once { (script : Script) (first : ℕ) (report : Report) → Legal script first report → DeliversOnce report }
 {}
 
 /// The lifetime law: in every run, no entry after the one that let a peer go names that peer, neither in
