@@ -13,7 +13,7 @@ use Rattle.ov_model.specs.declared.answer.Answer.{Answer}
 use Rattle.ov_model.specs.declared.replay.ReplayEntry.{ReplayEntry}
 use Rattle.ov_model.specs.Events.{Step, Judgement, judgement_of, is_at, of, shown, shown_in}
 use Rattle.ov_model.specs.Tables.{Material}
-use Rattle.ov_model.specs.Path.{Path, Row, AtOnce, Commanded, Missed, Held, RowFits}
+use Rattle.ov_model.specs.Path.{Path, by_at_once, by_command, by_miss, by_round}
 use Rattle.ov_model.specs.Legal.{Meets, NeverFall, LaneMeets, LinesRise}
 
 pub all_append : {X : Type 0} (P : X → Type 0) (xs ys : List X) → AllByRecursion P xs → AllByRecursion P ys → AllByRecursion P (xs ++ ys)
@@ -141,20 +141,18 @@ line_done {m} {via} ss shards lane lines line answers a now judged meets line_is
 abbrev pub Knows : (old new : ℕ → Option Material) → Type 0
 Knows old new = (key : ℕ) (x : Material) → old key ≡ Some x → new key ≡ Some x
 
-fits_knows : (old new : ℕ → Option Material) (via : Addr → Addr) (line : Line) (row : Row) → Knows old new → RowFits old via line row → RowFits new via line row
-fits_knows old new via line (AtOnce a) knows fits = fits
-fits_knows old new via line (Commanded c r taken os) knows fits = fits
-fits_knows old new via line (Missed a r cause) knows fits = fits
-fits_knows old new via line (Held a h m u key peer) knows fits = (fits.0, knows h.key m fits.1, fits.2)
-
 pub path_knows : (old new : ℕ → Option Material) (via : Addr → Addr) (place : Place) (line : Line) (ss : List Step) (js : List Judgement) (a : Answer) → Knows old new → Path old via place line ss js a → Path new via place line ss js a
-path_knows old new via place line ss js a knows path = record {
-  row = path.row;
-  fits = fits_knows old new via line path.row knows path.fits;
-  steps_are = path.steps_are;
-  judgements_are = path.judgements_are;
-  answer_is = path.answer_is;
-}
+path_knows old new via place line ss js a knows (by_at_once r) = by_at_once r
+path_knows old new via place line ss js a knows (by_command r) = by_command r
+path_knows old new via place line ss js a knows (by_miss r) = by_miss r
+path_knows old new via place line ss js a knows (by_round r) = by_round (record {
+  round = r.round;
+  begins_so = r.begins_so;
+  fits = (knows r.round.hold.key r.round.material r.fits.0, r.fits.1);
+  steps_are = r.steps_are;
+  judgements_are = r.judgements_are;
+  answer_is = r.answer_is;
+})
 
 pub lane_knows : (old new : ℕ → Option Material) (via : Addr → Addr) (ss : List Step) (shards : List (List ReplayEntry)) (lane : ℕ) (lines : List Line) (answers : List Answer) (now : List Step) (judged : List Judgement) → Knows old new → LaneMeets old via ss shards lane lines answers now judged → LaneMeets new via ss shards lane lines answers now judged
 lane_knows old new via ss shards lane lines answers now judged knows meets = record {

@@ -1,10 +1,9 @@
 -- Each sealed answer of a legal report was sealed with a key that the history installed.
-use Rattle.std.proofs.Common.{ℕ, ◌≡◌, List, [], refl, sym, ◌∙◌, subst, ap, Bool}
+use Rattle.std.proofs.Common.{ℕ, ◌≡◌, List, [], refl, sym, ◌∙◌, subst, ap}
 use Rattle.std.specs.Prelude.{⊤, Option, Some, None, Result, Ok, Err, slice_get}
 use Rattle.std.proofs.lemmas.Option.{slice_get_within}
 use Rattle.ov_base.specs.declared.address.Addr.{Addr}
 use Rattle.ov_base.specs.declared.address.Transport.{Transport}
-use Rattle.ov_aes.specs.Aes.{key_list}
 use Rattle.ov_model.specs.declared.ident.PeerId.{PeerId}
 use Rattle.ov_model.specs.declared.ident.KeyId.{KeyId}
 use Rattle.ov_model.specs.declared.place.Place.{Place}
@@ -18,6 +17,7 @@ use Rattle.ov_model.specs.declared.answer.Answer.{Answer}
 use Rattle.ov_model.specs.declared.answer.Answer.TheVariants as answer
 use Rattle.ov_model.specs.declared.answer.DropCause.TheVariants as drop
 use Rattle.ov_model.specs.declared.answer.SealedOut.{SealedOut}
+use Rattle.ov_model.specs.declared.stand.Use.{Use}
 use Rattle.ov_model.specs.declared.stand.Use.TheVariants as used
 use Rattle.ov_model.specs.declared.line.Line.{Line}
 use Rattle.ov_model.specs.declared.line.Deed.{Deed}
@@ -27,13 +27,13 @@ use Rattle.ov_model.specs.declared.report.Report.{Report}
 use Rattle.ov_model.specs.Ident.{peer_id, key_id}
 use Rattle.ov_model.specs.Tables.{Material, empty_table}
 use Rattle.ov_model.specs.Checked.{checked}
-use Rattle.ov_model.specs.Events.{Step, of, steps_of, step_of}
-use Rattle.ov_model.specs.Packets.{HeadKind, short, data_v1, control, data_v2, head_of, Inner, v4, v6, not_ip, inner_of, datagram}
-use Rattle.ov_model.specs.Path.{at_once, begins_netlink, begins_tx, rx_look_by, begins_rx, begins, packet_in, UseFits, Row, AtOnce, Commanded, Missed, Held, RowFits, row_steps, row_answer}
+use Rattle.ov_model.specs.Events.{Step, Judgement, of, shown_in, steps_of, step_of}
+use Rattle.ov_model.specs.Packets.{HeadKind, short, data_v1, control, data_v2, head_of, Inner, v4, v6, not_ip, inner_of}
+use Rattle.ov_model.specs.Path.{at_once, begins_netlink, begins_tx, rx_look_by, begins_rx, begins, UseFits, sealed_datagram, use_row, Path, by_at_once, by_command, by_miss, by_round}
 use Rattle.ov_model.specs.Keys.{key_of}
 use Rattle.ov_model.specs.Legal.{Meets, Legal}
 use Rattle.ov_model.specs.Laws.{IsSealed, SealedUnder}
-use Rattle.ov_model.proofs.Places.{EntryAt, step_entry}
+use Rattle.ov_model.proofs.Places.{step_entry}
 use Rattle.ov_model.proofs.NonceLaw.{InLane, in_lane}
 
 -- ---- what is answered at once is neither sealed nor delivered
@@ -72,68 +72,70 @@ at_once_not_made via (deed.Rx from bytes) a is made = rx_not_made from (head_of 
 
 -- ---- the row of a sealed answer
 
--- The line's packet, its look-up's hold and the material of the key that sealed.
-record Under (material : ℕ → Option Material) (line : Line) (row : Row) (s : SealedOut) : Type 0 where
-  a : Act
-  h : HoldView
-  m : Material
-  key : Bool
-  peer : Bool
-  packet : List ℕ
-  row_is : row ≡ Held a h m (used.Sealed s.id) key peer
-  sends : line.deed ≡ deed.Tx packet
-  m_is : material h.key ≡ Some m
-  key_is : s.key ≡ h.key
-  to_is : s.to ≡ h.to
-  datagram_is : s.datagram ≡ datagram h.id.number h.key_id.number s.id (key_list m.encrypt.key) m.encrypt.tail packet
-
--- What seals is the packet of a line that sends.
-record SealsPacket (d : Deed) (m : Material) : Type 0 where
+-- What is sealed is the packet of a line that sends.
+record Seals (d : Deed) (h : HoldView) (m : Material) (s : SealedOut) : Type 0 where
   packet : List ℕ
   sends : d ≡ deed.Tx packet
-  packet_is : packet_in d m ≡ packet
+  sealed : s ≡ record { to = h.to; key = h.key; id = s.id; datagram = sealed_datagram h m s.id packet }
 
-seals_packet : (d : Deed) (m : Material) (n : ℕ) → UseFits d m (used.Sealed n) → SealsPacket d m
-seals_packet (deed.Netlink x) m n fits = absurd fits
-seals_packet (deed.Tx packet) m n fits = record { packet = packet; sends = refl; packet_is = refl }
-seals_packet (deed.Rx from bytes) m n fits = absurd fits
+seals : (via : Addr → Addr) (place : Place) (at : ℕ) (d : Deed) (h : HoldView) (m : Material) (u : Use) (s : SealedOut) → UseFits d m u → answer.Sealed s ≡ (use_row via place at d h m u).answer → Seals d h m s
+seals via place at (deed.Netlink n) h m u s fits is = absurd fits
+seals via place at (deed.Tx packet) h m (used.Sealed n) s fits is =
+    let its : s ≡ record { to = h.to; key = h.key; id = n; datagram = sealed_datagram h m n packet } = cc in
+    subst (Seals (deed.Tx packet) h m) (sym its) (record { packet = packet; sends = refl; sealed = refl })
+seals via place at (deed.Tx packet) h m (used.Spent killed) s fits is = cc
+seals via place at (deed.Tx packet) h m used.BadTag s fits is = absurd fits
+seals via place at (deed.Tx packet) h m (used.Refused x) s fits is = absurd fits
+seals via place at (deed.Tx packet) h m (used.Settled x) s fits is = absurd fits
+seals via place at (deed.Rx from bytes) h m (used.Sealed n) s fits is = absurd fits
+seals via place at (deed.Rx from bytes) h m (used.Spent killed) s fits is = absurd fits
+seals via place at (deed.Rx from bytes) h m used.BadTag s fits is = cc
+seals via place at (deed.Rx from bytes) h m (used.Refused x) s fits is = cc
+seals via place at (deed.Rx from bytes) h m (used.Settled settled.Deliver) s fits is = cc
+seals via place at (deed.Rx from bytes) h m (used.Settled settled.Ping) s fits is = cc
+seals via place at (deed.Rx from bytes) h m (used.Settled settled.NotIp) s fits is = cc
+seals via place at (deed.Rx from bytes) h m (used.Settled settled.NotOwner) s fits is = cc
 
-sealed_row : (material : ℕ → Option Material) (via : Addr → Addr) (line : Line) (s : SealedOut) (row : Row) → RowFits material via line row → answer.Sealed s ≡ row_answer line row → Under material line row s
-sealed_row material via line s (AtOnce a) fits is = absurd (at_once_not_made via line.deed a fits (subst IsMade is tt))
-sealed_row material via line s (Commanded c r taken os) fits is = cc
-sealed_row material via line s (Missed a r cause) fits is = cc
-sealed_row material via line s (Held a h m (used.Sealed n) key peer) fits is =
-    let x : SealsPacket line.deed m = seals_packet line.deed m n fits.2 in
-    let its : s ≡ record { to = h.to; key = h.key; id = n; datagram = datagram h.id.number h.key_id.number n (key_list m.encrypt.key) m.encrypt.tail (packet_in line.deed m) } = cc in
-    let id : s.id ≡ n = ap (λ (o : SealedOut). o.id) its in
-    record { a = a; h = h; m = m; key = key; peer = peer; packet = x.packet; row_is = rw id refl; sends = x.sends; m_is = fits.1; key_is = ap (λ (o : SealedOut). o.key) its; to_is = ap (λ (o : SealedOut). o.to) its; datagram_is = rw (id, ← x.packet_is) (ap (λ (o : SealedOut). o.datagram) its) }
-sealed_row material via line s (Held a h m (used.Spent killed) key peer) fits is = cc
-sealed_row material via line s (Held a h m used.BadTag key peer) fits is = cc
-sealed_row material via line s (Held a h m (used.Refused v) key peer) fits is = cc
-sealed_row material via line s (Held a h m (used.Settled settled.Deliver) key peer) fits is = cc
-sealed_row material via line s (Held a h m (used.Settled settled.Ping) key peer) fits is = cc
-sealed_row material via line s (Held a h m (used.Settled settled.NotIp) key peer) fits is = cc
-sealed_row material via line s (Held a h m (used.Settled settled.NotOwner) key peer) fits is = cc
+-- A sealed answer stands in the row of a round.
+record SealedRow (material : ℕ → Option Material) (place : Place) (line : Line) (ss : List Step) (s : SealedOut) : Type 0 where
+  look : Act
+  h : HoldView
+  m : Material
+  m_is : material h.key ≡ Some m
+  seals : Seals line.deed h m s
+  looked : slice_get ss 0 ≡ Some (step_of place line.at look (reply.Hold h) [])
+
+sealed_row : (material : ℕ → Option Material) (via : Addr → Addr) (place : Place) (line : Line) (ss : List Step) (js : List Judgement) (s : SealedOut) → Path material via place line ss js (answer.Sealed s) → SealedRow material place line ss s
+sealed_row material via place line ss js s (by_at_once r) = absurd (at_once_not_made via line.deed (answer.Sealed s) r.begins_so tt)
+sealed_row material via place line ss js s (by_command r) = let is = r.answer_is in cc
+sealed_row material via place line ss js s (by_miss r) = let is = r.answer_is in cc
+sealed_row material via place line ss js s (by_round r) = record {
+  look = r.round.look;
+  h = r.round.hold;
+  m = r.round.material;
+  m_is = r.fits.0;
+  seals = seals via place line.at line.deed r.round.hold r.round.material r.round.made s r.fits.1 r.answer_is;
+  looked = ap (λ (l : List Step). slice_get l 0) r.steps_are;
+}
 
 pub sealed_under : (script : Script) (first : ℕ) (report : Report) → Legal script first report → (lane line : ℕ) (s : SealedOut) → IsSealed report lane line s → SealedUnder report lane line s
 sealed_under script first report legal lane line s at =
     let place : Place = record { lane = lane; line = line } in
     let x : InLane report.lanes lane line (answer.Sealed s) = in_lane report.lanes lane line (answer.Sealed s) at in
     let meets : Meets (key_of report.journal) (λ a. a) (steps_of report.journal) report.shards lane x.log.lines x.log.answers line = (legal.lines.each lane x.log x.log_is).each line (slice_get_within x.log.answers line (answer.Sealed s) x.at) in
-    let its : Some (answer.Sealed s) ≡ Some meets.answer = sym x.at ∙ meets.answer_is in
-    let same : answer.Sealed s ≡ meets.answer = cc in
-    let under : Under (key_of report.journal) meets.line meets.path.row s = sealed_row (key_of report.journal) (λ a. a) meets.line s meets.path.row meets.path.fits (same ∙ meets.path.answer_is) in
-    let look : Step = step_of place meets.line.at under.a (reply.Hold under.h) [] in
-    let steps : of (steps_of report.journal) lane line ≡ row_steps (λ a. a) place meets.line (Held under.a under.h under.m (used.Sealed s.id) under.key under.peer) = meets.path.steps_are ∙ ap (λ (r : Row). row_steps (λ a. a) place meets.line r) under.row_is in
-    let found : EntryAt report.journal look.entry = step_entry empty_table report.journal lane line 0 look (ap (λ (ss : List Step). slice_get ss 0) steps) in
+    let its : Some meets.answer ≡ Some (answer.Sealed s) = sym meets.answer_is ∙ x.at in
+    let same : meets.answer ≡ answer.Sealed s = cc in
+    let P : Answer → Type 0 = Path (key_of report.journal) (λ a. a) place meets.line (of (steps_of report.journal) lane line) (shown_in report.shards lane line) in
+    let row : SealedRow (key_of report.journal) place meets.line (of (steps_of report.journal) lane line) s = sealed_row (key_of report.journal) (λ a. a) place meets.line _ _ s (subst P same meets.path) in
+    let found = step_entry empty_table report.journal lane line 0 (step_of place meets.line.at row.look (reply.Hold row.h) []) row.looked in
     record {
-      packet = under.packet;
-      sends = record { log = x.log; log_is = x.log_is; its = meets.line; its_is = meets.line_is; deed_is = under.sends };
-      hold = under.h;
-      held = record { n = found.n; entry = look.entry; made = record { at = found.at; place = refl }; held = refl };
-      key_is = under.key_is;
-      to_is = under.to_is;
-      material = under.m;
-      material_is = under.m_is;
-      datagram_is = under.datagram_is;
+      packet = row.seals.packet;
+      sends = record { log = x.log; log_is = x.log_is; its = meets.line; its_is = meets.line_is; deed_is = row.seals.sends };
+      hold = row.h;
+      held = record { n = found.n; entry = (step_of place meets.line.at row.look (reply.Hold row.h) []).entry; made = record { at = found.at; place = refl }; held = refl };
+      key_is = ap (λ (o : SealedOut). o.key) row.seals.sealed;
+      to_is = ap (λ (o : SealedOut). o.to) row.seals.sealed;
+      material = row.m;
+      material_is = row.m_is;
+      datagram_is = ap (λ (o : SealedOut). o.datagram) row.seals.sealed;
     }
