@@ -1,5 +1,5 @@
 -- When a received datagram's inner packet is delivered, in the words of the report alone.
-use Rattle.std.specs.Prelude.{ℕ, ◌≡◌, List, take, Some, slice_get}
+use Rattle.std.specs.Prelude.{ℕ, ◌≡◌, List, take, Some}
 use Rattle.ov_base.specs.declared.address.Addr.{Addr}
 use Rattle.ov_base.specs.declared.address.Transport.{Transport}
 use Rattle.ov_model.specs.declared.ident.PeerId.{PeerId}

@@ -13,6 +13,7 @@ pub mod Removals
 pub mod Keys
 pub mod Legal
 pub mod Lanes
+pub mod Own
 pub mod Laws
 pub mod Delivery
 pub mod Lifetime
