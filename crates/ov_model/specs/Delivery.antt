@@ -1,5 +1,5 @@
 -- When a received datagram's inner packet is delivered, in the words of the report alone.
-use Rattle.std.specs.Prelude.{ℕ, ◌≡◌, List, take, Some}
+use Rattle.std.specs.Prelude.{ℕ, ◌≡◌, ◌↔◌, List, take, Some}
 use Rattle.ov_base.specs.declared.address.Addr.{Addr}
 use Rattle.ov_base.specs.declared.address.Transport.{Transport}
 use Rattle.ov_model.specs.declared.ident.PeerId.{PeerId}
@@ -9,6 +9,7 @@ use Rattle.ov_model.specs.declared.entry.Entry.{Entry}
 use Rattle.ov_model.specs.declared.reply.HoldView.{HoldView}
 use Rattle.ov_model.specs.declared.replay.ReplayEntry.{ReplayEntry}
 use Rattle.ov_model.specs.declared.replay.Verdict.TheVariants.{Accept}
+use Rattle.ov_model.specs.declared.answer.Answer.{Answer}
 use Rattle.ov_model.specs.declared.answer.Answer.TheVariants.{Delivered}
 use Rattle.ov_model.specs.declared.report.Report.{Report}
 use Rattle.ov_model.specs.Tables.{Peer, Table, Material, empty_table, by_vpn}
@@ -60,6 +61,15 @@ pub record Delivers (report : Report) (lane line : ℕ) (bytes : List ℕ) (id :
   pub owner : Peer
   pub owner_is : by_vpn source (table_before report.journal settle).live ≡ Some owner
   pub owns : owner.serial ≡ hold.peer
+
+-- An answered line that received a datagram is answered with a packet exactly where it delivers it.
+abbrev pub DeliversExactly : Report → Type 0
+DeliversExactly report = (lane line : ℕ) (from : Transport) (bytes : List ℕ) (a : Answer) → Receives report lane line from bytes → answer_at report.lanes lane line ≡ Some a
+    → (id : PeerId) (packet : List ℕ) → (a ≡ Delivered id packet) ↔ Delivers report lane line bytes id packet
+
+-- No line is answered with a packet but one that received a datagram.
+abbrev pub DeliversReceived : Report → Type 0
+DeliversReceived report = (lane line : ℕ) (id : PeerId) (packet : List ℕ) → answer_at report.lanes lane line ≡ Some (Delivered id packet) → IsReceived report lane line
 
 -- A line received a datagram with a packet id, held a key, and was answered with a packet.
 pub record DeliveredUnder (report : Report) (lane line key packet_id : ℕ) : Type 0 where

@@ -8,6 +8,7 @@ use Rattle.ov_model.specs.declared.answer.Answer.TheVariants as answer
 use Rattle.ov_model.specs.declared.answer.SealedOut.{SealedOut}
 use Rattle.ov_model.specs.declared.entry.Entry.{Entry}
 use Rattle.ov_model.specs.declared.line.Line.{Line}
+use Rattle.ov_model.specs.declared.line.Script.{Script}
 use Rattle.ov_model.specs.declared.line.Deed.{Deed}
 use Rattle.ov_model.specs.declared.line.Deed.TheVariants as deed
 use Rattle.ov_model.specs.declared.reply.HoldView.{HoldView}
@@ -18,7 +19,12 @@ use Rattle.ov_model.specs.declared.report.LaneLog.{LaneLog}
 use Rattle.ov_model.specs.declared.report.Report.{Report}
 use Rattle.ov_model.specs.Tables.{Material}
 use Rattle.ov_model.specs.Keys.{key_of}
+use Rattle.ov_model.specs.Legal.{Legal}
 use Rattle.ov_model.specs.Packets.{datagram, nonce_of}
+
+-- What holds of every legal report, whatever its script and the first packet id of the keys.
+abbrev pub OfEveryLegal : (Report → Type 0) → Type 0
+OfEveryLegal P = (script : Script) (first : ℕ) (report : Report) → Legal script first report → P report
 
 -- ---- a line of a report
 
@@ -81,6 +87,9 @@ pub record SealedUnder (report : Report) (lane line : ℕ) (s : SealedOut) : Typ
   pub material : Material
   pub material_is : key_of report.journal hold.key ≡ Some material
   pub datagram_is : s.datagram ≡ datagram hold.id.number hold.key_id.number s.id (key_list material.encrypt.key) material.encrypt.tail packet
+
+abbrev pub SealsUnderHeld : Report → Type 0
+SealsUnderHeld report = (lane line : ℕ) (s : SealedOut) → IsSealed report lane line s → SealedUnder report lane line s
 
 -- Two sealed answers with the same bytes of their keys and the same nonce are one and the same.
 abbrev pub NoncesDiffer : Report → Type 0
