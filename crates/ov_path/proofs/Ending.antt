@@ -27,7 +27,7 @@ use Rattle.ov_model.specs.declared.answer.DropCause.{DropCause}
 use Rattle.ov_model.specs.Tables.{Material}
 use Rattle.ov_model.specs.Events.{Event, GaveKey, GavePeer, release_of, releases, steps_in, judgements_in, draws_in}
 use Rattle.ov_model.specs.Keys.{sealed_ids}
-use Rattle.ov_model.specs.Path.{at_once, first, begins, IsLook, IsMiss, UseFits, use_steps, use_judgements, use_answer, settled_answer, owed_where, hold_owed, AtOnce, Commanded, Missed, Held as HeldRow}
+use Rattle.ov_model.specs.Path.{at_once, first, begins, IsLook, IsMiss, UseFits, settled_answer, Columns, use_row, owed_where, hold_owed, by_at_once, by_command, by_miss, by_round}
 use Rattle.ov_path.specs.Desks.{Holding, Shown, Called, owed_if, first_owed, look_holds}
 use Rattle.ov_path.specs.Walks.{released, use_events, AtReplied, AtPeerGiven, Walking, Over, IsOpen, Progressed, AnswerIs}
 use Rattle.ov_path.specs.declared.walk.Progress.{Progress}
@@ -61,7 +61,7 @@ draws_released : (place : Place) (at : ℕ) (os : List Owed) → draws_in (relea
 draws_released place at [] = refl
 draws_released place at (o ∷ os) = draws_released place at os
 
-steps_of_use : (via : Addr → Addr) (place : Place) (at : ℕ) (d : Deed) (h : HoldView) (m : Material) (u : Use) (es : List Event) → steps_in (use_events via place at d h m u ++ es) ≡ use_steps via place at d h m u ++ steps_in es
+steps_of_use : (via : Addr → Addr) (place : Place) (at : ℕ) (d : Deed) (h : HoldView) (m : Material) (u : Use) (es : List Event) → steps_in (use_events via place at d h m u ++ es) ≡ (use_row via place at d h m u).steps ++ steps_in es
 steps_of_use via place at (deed.Netlink n) h m u es = refl
 steps_of_use via place at (deed.Tx packet) h m (used.Sealed i) es = refl
 steps_of_use via place at (deed.Tx packet) h m (used.Spent killed) es = refl
@@ -74,7 +74,7 @@ steps_of_use via place at (deed.Rx from bytes) h m used.BadTag es = refl
 steps_of_use via place at (deed.Rx from bytes) h m (used.Refused v) es = refl
 steps_of_use via place at (deed.Rx from bytes) h m (used.Settled s) es = refl
 
-judgements_of_use : (via : Addr → Addr) (place : Place) (at : ℕ) (d : Deed) (h : HoldView) (m : Material) (u : Use) (es : List Event) → judgements_in (use_events via place at d h m u ++ es) ≡ use_judgements place at d h u ++ judgements_in es
+judgements_of_use : (via : Addr → Addr) (place : Place) (at : ℕ) (d : Deed) (h : HoldView) (m : Material) (u : Use) (es : List Event) → judgements_in (use_events via place at d h m u ++ es) ≡ (use_row via place at d h m u).judgements ++ judgements_in es
 judgements_of_use via place at (deed.Netlink n) h m u es = refl
 judgements_of_use via place at (deed.Tx packet) h m (used.Sealed i) es = refl
 judgements_of_use via place at (deed.Tx packet) h m (used.Spent killed) es = refl
@@ -94,7 +94,7 @@ settled_unsealed settled.NotIp h packet = refl
 settled_unsealed settled.NotOwner h packet = refl
 
 -- What a use draws is what it seals.
-draws_of_use : (via : Addr → Addr) (place : Place) (at : ℕ) (d : Deed) (h : HoldView) (m : Material) (u : Use) (es : List Event) → UseFits d m u → draws_in es ≡ [] → draws_in (use_events via place at d h m u ++ es) ≡ sealed_ids (use_answer d h m u)
+draws_of_use : (via : Addr → Addr) (place : Place) (at : ℕ) (d : Deed) (h : HoldView) (m : Material) (u : Use) (es : List Event) → UseFits d m u → draws_in es ≡ [] → draws_in (use_events via place at d h m u ++ es) ≡ sealed_ids (use_row via place at d h m u).answer
 draws_of_use via place at (deed.Netlink n) h m u es fits none = absurd fits
 draws_of_use via place at (deed.Tx packet) h m (used.Sealed i) es fits none = rw none refl
 draws_of_use via place at (deed.Tx packet) h m (used.Spent killed) es fits none = none
@@ -115,7 +115,7 @@ pub nothing_over : {m : ℕ → Option Material} {via : Addr → Addr} {place : 
 nothing_over {via = via} {line = line} b k begins_so = record {
   owes = k.trail.owes;
   hold = k.hold;
-  path = record { row = AtOnce b; fits = begins_so; steps_are = rw k.trail.none refl; judgements_are = rw k.trail.none refl; answer_is = refl };
+  path = by_at_once (record { begins_so = begins_so; steps_are = rw k.trail.none refl; judgements_are = rw k.trail.none refl });
   drawn = rw k.trail.none (sym (at_once_unsealed via line.deed b begins_so));
 }
 
@@ -134,7 +134,7 @@ missed_over {n = n} {w = w} look r cause k begins_so is_look miss same called =
     rw same (rw called.new_is (record {
       owes = rw (k.trail.owes, says.joins) refl;
       hold = says.hold ∙ miss_holds w.hold r cause miss ∙ k.hold;
-      path = record { row = Missed look r cause; fits = (begins_so, is_look, miss); steps_are = rw (k.trail.none, says.takes) refl; judgements_are = rw k.trail.none refl; answer_is = refl };
+      path = by_miss (record { look = look; r = r; cause = cause; begins_so = begins_so; looks = is_look; misses = miss; steps_are = rw (k.trail.none, says.takes) refl; judgements_are = rw k.trail.none refl; answer_is = refl });
       drawn = rw k.trail.none refl;
     }))
 
@@ -148,13 +148,17 @@ replied_over {place = place} {line = line} {w = w} b k none =
     record {
       owes = none;
       hold = k.hold;
-      path = record {
-        row = Commanded t.command t.r t.taken t.all;
-        fits = (t.begins_so, t.some);
+      path = by_command (record {
+        command = t.command;
+        r = t.r;
+        taken = t.taken;
+        os = t.all;
+        begins_so = t.begins_so;
+        some = t.some;
         steps_are = rw (t.events, ← all) (same_head _ (steps_in (released place line.at t.done)) (releases place line.at t.done) (steps_released place line.at t.done));
         judgements_are = rw t.events (judgements_released place line.at t.done);
         answer_is = answer_is;
-      };
+      });
       drawn = rw (t.events, answer_is) (draws_released place line.at t.done);
     }
 
@@ -174,7 +178,8 @@ held_over {via = via} {place = place} {line = line} {w = w} {h = h} {u = u} b k 
     let keys : List Owed = owed_if t.key (owed.Key h.key) in
     let peers : List Owed = owed_if t.peer (owed.Peer h.peer) in
     let all : t.done ≡ peers = all_done t.done w.owing peers t.owes none in
-    let answer_is : b ≡ use_answer line.deed h t.m u = ap (λ o. unwrap_or o b) t.answer in
+    let row : Columns = use_row via place line.at line.deed h t.m u in
+    let answer_is : b ≡ row.answer = ap (λ o. unwrap_or o b) t.answer in
     let back : List Event = GaveKey h.key t.key ∷ (released place line.at keys ++ GavePeer h.peer t.peer ∷ released place line.at t.done) in
     let both : hold_owed h (is_last t.key) (is_last t.peer) ≡ keys ++ peers = rw (← last_owed t.key (owed.Key h.key), ← last_owed t.peer (owed.Peer h.peer)) refl in
     let back_steps : steps_in back ≡ releases place line.at (hold_owed h (is_last t.key) (is_last t.peer)) =
@@ -183,20 +188,21 @@ held_over {via = via} {place = place} {line = line} {w = w} {h = h} {u = u} b k 
     judgements_released-append place line.at keys (GavePeer h.peer t.peer ∷ released place line.at t.done) ∙ judgements_released place line.at t.done in
     let back_draws : draws_in back ≡ [] =
     draws_released-append place line.at keys (GavePeer h.peer t.peer ∷ released place line.at t.done) ∙ draws_released place line.at t.done in
-    let steps : steps_in (use_events via place line.at line.deed h t.m u ++ back) ≡ use_steps via place line.at line.deed h t.m u ++ releases place line.at (hold_owed h (is_last t.key) (is_last t.peer)) =
-    steps_of_use via place line.at line.deed h t.m u back ∙ ap (λ ss. use_steps via place line.at line.deed h t.m u ++ ss) back_steps in
-    let judgements : judgements_in (use_events via place line.at line.deed h t.m u ++ back) ≡ use_judgements place line.at line.deed h u =
-    judgements_of_use via place line.at line.deed h t.m u back ∙ ap (λ js. use_judgements place line.at line.deed h u ++ js) back_judgements ∙ append-nil _ in
+    let steps : steps_in (use_events via place line.at line.deed h t.m u ++ back) ≡ row.steps ++ releases place line.at (hold_owed h (is_last t.key) (is_last t.peer)) =
+    steps_of_use via place line.at line.deed h t.m u back ∙ ap (λ ss. row.steps ++ ss) back_steps in
+    let judgements : judgements_in (use_events via place line.at line.deed h t.m u ++ back) ≡ row.judgements =
+    judgements_of_use via place line.at line.deed h t.m u back ∙ ap (λ js. row.judgements ++ js) back_judgements ∙ append-nil _ in
     record {
       owes = none;
       hold = k.hold;
-      path = record {
-        row = HeldRow t.held.look h t.m u (is_last t.key) (is_last t.peer);
-        fits = (t.held.begins_so, t.held.has, t.fits);
+      path = by_round (record {
+        round = record { look = t.held.look; hold = h; material = t.m; made = u; key = is_last t.key; peer = is_last t.peer };
+        begins_so = t.held.begins_so;
+        fits = (t.held.has, t.fits);
         steps_are = ap steps_in t.held.events ∙ same_head _ _ _ steps;
         judgements_are = ap judgements_in t.held.events ∙ judgements;
         answer_is = answer_is;
-      };
+      });
       drawn = ap draws_in t.held.events ∙ draws_of_use via place line.at line.deed h t.m u back t.fits back_draws ∙ ap sealed_ids (sym answer_is);
     }
 

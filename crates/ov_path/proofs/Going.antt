@@ -162,7 +162,7 @@ spend_step {place = place} {line = line} {w = w} {h = h} r k deed_is grows same 
     fits = rw deed_is tt;
     held = record { look = k.trail.held.look; begins_so = k.trail.held.begins_so; has = grows _ _ k.trail.held.has; events = rw (k.trail.held.events, deed_is, called.joins.0, spend_reply r called.fits) refl };
     owes = rw (k.trail.owes, called.joins.1) refl;
-    answer = refl;
+    answer = rw deed_is refl;
   };
 }))
 
@@ -180,7 +180,7 @@ bad_tag_step {w = w} {h = h} p g k deed_is has closed same is = rw same (rw is (
     fits = rw deed_is (sym closed);
     held = record { look = k.trail.held.look; begins_so = k.trail.held.begins_so; has = has; events = rw (k.trail.held.events, deed_is) refl };
     owes = rw k.trail.owes refl;
-    answer = refl;
+    answer = rw deed_is refl;
   };
 }))
 
@@ -236,7 +236,7 @@ refused_step {place = place} {line = line} {w = w} {h = h} {bytes = bytes} {pack
         fits = rw deed_is (rw (← inner) refl);
         held = record { look = k.trail.held.look; begins_so = k.trail.held.begins_so; has = has; events = rw (k.trail.held.events, deed_is, r.is) refl };
         owes = k.trail.owes;
-        answer = refl;
+        answer = rw deed_is refl;
       };
     })))
 
