@@ -13,7 +13,7 @@ use Rattle.ov_model.specs.Events.{steps_after, steps_of}
 use Rattle.ov_model.specs.Path.{removed, spent_reply}
 use Rattle.ov_model.specs.Removals.{removed_in, AllReleased, released_by, released_in, key_released_by, keys_released_in, keys_taken_in, times, EachReleasedOnce}
 use Rattle.ov_model.proofs.Removing.{serials, Joins, command_joins, Keeps, tx_look_keeps, rx_look_keeps, sent_keeps, settle_keeps, Spends, spend_spends}
-use Rattle.ov_model.proofs.Noted.{removed_once}
+use Rattle.ov_model.proofs.RemovedOnce.{removed_once}
 use Rattle.ov_model.proofs.Times.{times-append, times_first, times_distinct}
 use Rattle.ov_model.proofs.KeysTaken.{taken_once}
 

@@ -3,9 +3,11 @@ pub mod Going
 pub mod Lanes
 pub mod Removing
 pub mod Shapes
+pub mod RemovedOnce
 pub mod Noted
 pub mod Times
 pub mod KeysTaken
+pub mod Kills
 pub mod Freed
 pub mod ReplayLemmas
 pub mod Counting

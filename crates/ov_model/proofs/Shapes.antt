@@ -1,5 +1,5 @@
 -- What a step does to the serials and ids of the live peers: it keeps them, makes one, or removes one.
-use Rattle.std.proofs.Common.{ℕ, ◌≡◌, ◌+◌, zero, suc, List, [], ◌∷◌, ◌++◌, refl, ap, ◌∙◌, Bool, true, false, if◌then◌else◌, ◌==◌, ◌&&◌, nat_le, inl, inr, ◌⊎◌}
+use Rattle.std.proofs.Common.{ℕ, ◌≡◌, ◌+◌, zero, suc, List, [], ◌∷◌, ◌++◌, refl, ap, ◌∙◌, length, Bool, true, false, if◌then◌else◌, ◌==◌, ◌&&◌, nat_le, inl, inr, ◌⊎◌}
 use Rattle.std.specs.Prelude.{map, filter, Option, Some, None, is_none, is_some, position, remove, slice_get, slice_set}
 use Rattle.std.specs.List.{list_any}
 use Rattle.std.proofs.lemmas.List.{map-append}
@@ -12,6 +12,7 @@ use Rattle.ov_model.specs.declared.command.Reason.{Reason}
 use Rattle.ov_model.specs.declared.command.Command.TheVariants as command
 use Rattle.ov_model.specs.declared.act.Act.{Act}
 use Rattle.ov_model.specs.declared.act.Act.TheVariants as act
+use Rattle.ov_model.specs.declared.act.Call.{Call}
 use Rattle.ov_model.specs.declared.entry.Entry.{Entry}
 use Rattle.ov_model.specs.declared.note.NoteBody.TheVariants as note
 use Rattle.ov_model.specs.declared.reply.Reply.TheVariants as reply
@@ -22,7 +23,7 @@ use Rattle.ov_model.specs.declared.reply.Settled.TheVariants as settled
 use Rattle.ov_model.specs.Tables.{Peer, Key, Table, without_key, by_id, by_remote, by_vpn, by_key_id, by_key, with_slot, shares_vpn}
 use Rattle.ov_model.specs.Step.{Outcome, refused, peer_of, peer_new, peer_new_at, peer_new_with, peer_get, peer_get_of, remove_peer, removed_at, removed_found, key_of_conf, key_made, key_new_found, key_new_place, key_new, key_found, tx_found, tx_look, rx_peer, rx_found, rx_look, sent_peer, sent_dying, sent_not_live, sent_live, sent_at, sent, received_peer, floated, settled_peer, settled_as, settle_dying, settle_not_live, settle_live, settle_at, settle, spent_key, spent_found, spent_at, spend, released, released_at, key_released, key_released_at, act_step, step}
 use Rattle.ov_model.specs.Path.{removed}
-use Rattle.ov_model.specs.Removals.{id_by, reason_of, is_peer_del}
+use Rattle.ov_model.specs.Removals.{id_by, reason_of, killed_by, is_peer_del, is_key_swap}
 
 -- ---- the names of peers
 
@@ -61,6 +62,7 @@ pub record Still (t : Table) (a : Act) (o : Outcome) : Type 0 where
   pub made : o.after.made ≡ t.made
   pub none_removed : removed o.reply ≡ []
   pub notes : filter is_peer_del o.notes ≡ []
+  pub swaps : length (filter is_key_swap o.notes) ≡ length (killed_by o.reply a)
   pub none_made : (s : ℕ) → id_by o.reply a s ≡ None
 
 -- It makes one.
@@ -71,6 +73,7 @@ pub record Grows (t : Table) (a : Act) (o : Outcome) : Type 0 where
   pub made : o.after.made ≡ t.made + 1
   pub none_removed : removed o.reply ≡ []
   pub notes : filter is_peer_del o.notes ≡ []
+  pub swaps : length (filter is_key_swap o.notes) ≡ length (killed_by o.reply a)
   pub one_made : (s : ℕ) → id_by o.reply a s ≡ (if t.made == s then Some peer.id else None)
 
 -- It removes one.
@@ -83,6 +86,7 @@ pub record Loses (t : Table) (a : Act) (o : Outcome) : Type 0 where
   pub made : o.after.made ≡ t.made
   pub one_removed : removed o.reply ≡ peer.serial ∷ []
   pub notes : filter is_peer_del o.notes ≡ note.PeerDel peer.id reason ∷ []
+  pub swaps : length (filter is_key_swap o.notes) ≡ length (killed_by o.reply a)
   pub reason_is : reason_of a ≡ Some reason
   pub none_made : (s : ℕ) → id_by o.reply a s ≡ None
 
@@ -94,7 +98,7 @@ shape_if t a true x y h k = h
 shape_if t a false x y h k = k
 
 refused_still : (t : Table) (a : Act) (now : ℕ) (e : Errno) → Shape t a (refused t now e)
-refused_still t a now e = inl (record { live = refl; made = refl; none_removed = refl; notes = refl; none_made = λ s. refl })
+refused_still t a now e = inl (record { live = refl; made = refl; none_removed = refl; notes = refl; swaps = refl; none_made = λ s. refl })
 
 -- ---- commands
 
@@ -102,7 +106,7 @@ new_at_shape : (t : Table) (now : ℕ) (a : Attrs) (remote : Transport) → Shap
 new_at_shape t now a remote =
     let new : Act = act.Do (command.PeerNew a) in
     let made : Outcome = record { after = record t { live = t.live ++ peer_of t.made now a remote ∷ []; made = t.made + 1; moment = now }; reply = reply.Made t.made; taken = []; notes = [] } in
-    let grows : Grows t new made = record { peer = name_of (peer_of t.made now a remote); live = map-append name_of t.live (peer_of t.made now a remote ∷ []); serial = refl; made = refl; none_removed = refl; notes = refl; one_made = λ s. refl } in
+    let grows : Grows t new made = record { peer = name_of (peer_of t.made now a remote); live = map-append name_of t.live (peer_of t.made now a remote ∷ []); serial = refl; made = refl; none_removed = refl; notes = refl; swaps = refl; one_made = λ s. refl } in
     shape_if t new (is_none a.vpn4 && is_none a.vpn6) (refused t now Invalid) _ (refused_still t new now Invalid)
     (shape_if t new (is_some (by_id a.id t.live)) (refused t now Exists) _ (refused_still t new now Exists)
     (shape_if t new (list_any (shares_vpn a) t.live) (refused t now Exists) _ (refused_still t new now Exists)
@@ -115,11 +119,11 @@ new_shape t now a (Some remote) = new_at_shape t now a remote
 
 get_shape : (t : Table) (a : Act) (now : ℕ) (p : Option Peer) → Shape t a (peer_get_of t now p)
 get_shape t a now None = refused_still t a now NoEntry
-get_shape t a now (Some p) = inl (record { live = refl; made = refl; none_removed = refl; notes = refl; none_made = λ s. refl })
+get_shape t a now (Some p) = inl (record { live = refl; made = refl; none_removed = refl; notes = refl; swaps = refl; none_made = λ s. refl })
 
 found_shape : (t : Table) (now : ℕ) (id : PeerId) (reason : Reason) (i : ℕ) (p : Option Peer) → slice_get t.live i ≡ p → Shape t (act.Do (command.Remove id reason)) (removed_found t now reason i p)
 found_shape t now id reason i None at = refused_still t (act.Do (command.Remove id reason)) now NoEntry
-found_shape t now id reason i (Some p) at = inr (inr (record { place = i; peer = name_of p; reason = reason; at = names_at t.live i p at; live = names_remove t.live i; made = refl; one_removed = refl; notes = refl; reason_is = refl; none_made = λ s. refl }))
+found_shape t now id reason i (Some p) at = inr (inr (record { place = i; peer = name_of p; reason = reason; at = names_at t.live i p at; live = names_remove t.live i; made = refl; one_removed = refl; notes = refl; swaps = refl; reason_is = refl; none_made = λ s. refl }))
 
 at_shape : (t : Table) (now : ℕ) (id : PeerId) (reason : Reason) (i : Option ℕ) → Shape t (act.Do (command.Remove id reason)) (removed_at t now reason i)
 at_shape t now id reason None = refused_still t (act.Do (command.Remove id reason)) now NoEntry
@@ -130,7 +134,7 @@ either_none true = refl
 either_none false = refl
 
 key_made_shape : (t : Table) (now : ℕ) (c : KeyConf) (i : ℕ) (p : Peer) → slice_get t.live i ≡ Some p → Shape t (act.Do (command.KeyNew c)) (key_made t now c i p)
-key_made_shape t now c i p at = inl (record { live = names_set t.live i p (record p { slots = with_slot c.slot (Some (key_of_conf t.keys_made c)) p.slots }) at refl; made = refl; none_removed = refl; notes = refl; none_made = λ s. either_none (t.keys_made == s) })
+key_made_shape t now c i p at = inl (record { live = names_set t.live i p (record p { slots = with_slot c.slot (Some (key_of_conf t.keys_made c)) p.slots }) at refl; made = refl; none_removed = refl; notes = refl; swaps = refl; none_made = λ s. either_none (t.keys_made == s) })
 
 key_found_shape : (t : Table) (now : ℕ) (c : KeyConf) (i : ℕ) (p : Option Peer) → slice_get t.live i ≡ p → Shape t (act.Do (command.KeyNew c)) (key_new_found t now c i p)
 key_found_shape t now c i None at = refused_still t (act.Do (command.KeyNew c)) now NoEntry
@@ -143,30 +147,30 @@ key_place_shape t now c (Some i) = key_found_shape t now c i (slice_get t.live i
 -- ---- look-ups
 
 look_shape : (t : Table) (a : Act) (now : ℕ) (p : Peer) (k : Option Key) → Shape t a (key_found t now p k)
-look_shape t a now p None = inl (record { live = refl; made = refl; none_removed = refl; notes = refl; none_made = λ s. refl })
-look_shape t a now p (Some k) = inl (record { live = refl; made = refl; none_removed = refl; notes = refl; none_made = λ s. refl })
+look_shape t a now p None = inl (record { live = refl; made = refl; none_removed = refl; notes = refl; swaps = refl; none_made = λ s. refl })
+look_shape t a now p (Some k) = inl (record { live = refl; made = refl; none_removed = refl; notes = refl; swaps = refl; none_made = λ s. refl })
 
 tx_shape : (t : Table) (a : Act) (now : ℕ) (p : Option Peer) → Shape t a (tx_found t now p)
-tx_shape t a now None = inl (record { live = refl; made = refl; none_removed = refl; notes = refl; none_made = λ s. refl })
+tx_shape t a now None = inl (record { live = refl; made = refl; none_removed = refl; notes = refl; swaps = refl; none_made = λ s. refl })
 tx_shape t a now (Some p) = look_shape t a now p p.slots.primary
 
 rx_shape : (t : Table) (a : Act) (now : ℕ) (id : KeyId) (p : Option Peer) → Shape t a (rx_found t now id p)
-rx_shape t a now id None = inl (record { live = refl; made = refl; none_removed = refl; notes = refl; none_made = λ s. refl })
+rx_shape t a now id None = inl (record { live = refl; made = refl; none_removed = refl; notes = refl; swaps = refl; none_made = λ s. refl })
 rx_shape t a now id (Some p) = look_shape t a now p (by_key_id id p.slots)
 
 -- ---- what is done with a hold
 
 sent_dying_shape : (t : Table) (a : Act) (now inner outer : ℕ) (ping : Bool) (i : ℕ) (p : Option Peer) → Shape t a (sent_dying t now inner outer ping i p)
-sent_dying_shape t a now inner outer ping i None = inl (record { live = refl; made = refl; none_removed = refl; notes = refl; none_made = λ s. refl })
-sent_dying_shape t a now inner outer ping i (Some p) = inl (record { live = refl; made = refl; none_removed = refl; notes = refl; none_made = λ s. refl })
+sent_dying_shape t a now inner outer ping i None = inl (record { live = refl; made = refl; none_removed = refl; notes = refl; swaps = refl; none_made = λ s. refl })
+sent_dying_shape t a now inner outer ping i (Some p) = inl (record { live = refl; made = refl; none_removed = refl; notes = refl; swaps = refl; none_made = λ s. refl })
 
 sent_not_live_shape : (t : Table) (a : Act) (now inner outer : ℕ) (ping : Bool) (i : Option ℕ) → Shape t a (sent_not_live t now inner outer ping i)
-sent_not_live_shape t a now inner outer ping None = inl (record { live = refl; made = refl; none_removed = refl; notes = refl; none_made = λ s. refl })
+sent_not_live_shape t a now inner outer ping None = inl (record { live = refl; made = refl; none_removed = refl; notes = refl; swaps = refl; none_made = λ s. refl })
 sent_not_live_shape t a now inner outer ping (Some i) = sent_dying_shape t a now inner outer ping i (slice_get t.dying i)
 
 sent_live_shape : (t : Table) (a : Act) (now inner outer : ℕ) (ping : Bool) (i : ℕ) (p : Option Peer) → slice_get t.live i ≡ p → Shape t a (sent_live t now inner outer ping i p)
-sent_live_shape t a now inner outer ping i None at = inl (record { live = refl; made = refl; none_removed = refl; notes = refl; none_made = λ s. refl })
-sent_live_shape t a now inner outer ping i (Some p) at = inl (record { live = names_set t.live i p (sent_peer now inner outer ping p) at refl; made = refl; none_removed = refl; notes = refl; none_made = λ s. refl })
+sent_live_shape t a now inner outer ping i None at = inl (record { live = refl; made = refl; none_removed = refl; notes = refl; swaps = refl; none_made = λ s. refl })
+sent_live_shape t a now inner outer ping i (Some p) at = inl (record { live = names_set t.live i p (sent_peer now inner outer ping p) at refl; made = refl; none_removed = refl; notes = refl; swaps = refl; none_made = λ s. refl })
 
 sent_shape : (t : Table) (a : Act) (now peer inner outer : ℕ) (ping : Bool) (i : Option ℕ) → Shape t a (sent_at t now peer inner outer ping i)
 sent_shape t a now peer inner outer ping None = sent_not_live_shape t a now inner outer ping (position (λ p. p.serial == peer) t.dying)
@@ -198,42 +202,42 @@ settle_kept now live from s inner outer p =
     record { name = last.name ∙ k.name; slots = last.slots ∙ k.slots }
 
 settle_dying_shape : (t : Table) (a : Act) (now : ℕ) (s : Settled) (inner outer i : ℕ) (p : Option Peer) → Shape t a (settle_dying t now s inner outer i p)
-settle_dying_shape t a now s inner outer i None = inl (record { live = refl; made = refl; none_removed = refl; notes = refl; none_made = λ s. refl })
-settle_dying_shape t a now s inner outer i (Some p) = inl (record { live = refl; made = refl; none_removed = refl; notes = refl; none_made = λ s. refl })
+settle_dying_shape t a now s inner outer i None = inl (record { live = refl; made = refl; none_removed = refl; notes = refl; swaps = refl; none_made = λ s. refl })
+settle_dying_shape t a now s inner outer i (Some p) = inl (record { live = refl; made = refl; none_removed = refl; notes = refl; swaps = refl; none_made = λ s. refl })
 
 settle_not_live_shape : (t : Table) (a : Act) (now : ℕ) (s : Settled) (inner outer : ℕ) (i : Option ℕ) → Shape t a (settle_not_live t now s inner outer i)
-settle_not_live_shape t a now s inner outer None = inl (record { live = refl; made = refl; none_removed = refl; notes = refl; none_made = λ s. refl })
+settle_not_live_shape t a now s inner outer None = inl (record { live = refl; made = refl; none_removed = refl; notes = refl; swaps = refl; none_made = λ s. refl })
 settle_not_live_shape t a now s inner outer (Some i) = settle_dying_shape t a now s inner outer i (slice_get t.dying i)
 
 settle_live_shape : (t : Table) (a : Act) (now : ℕ) (from : Option Transport) (s : Settled) (inner outer i : ℕ) (p : Option Peer) → slice_get t.live i ≡ p → Shape t a (settle_live t now from s inner outer i p)
-settle_live_shape t a now from s inner outer i None at = inl (record { live = refl; made = refl; none_removed = refl; notes = refl; none_made = λ s. refl })
-settle_live_shape t a now from s inner outer i (Some p) at = inl (record { live = names_set t.live i p (settled_peer s inner (floated t.live from (received_peer now outer p))) at (settle_kept now t.live from s inner outer p).name; made = refl; none_removed = refl; notes = refl; none_made = λ s. refl })
+settle_live_shape t a now from s inner outer i None at = inl (record { live = refl; made = refl; none_removed = refl; notes = refl; swaps = refl; none_made = λ s. refl })
+settle_live_shape t a now from s inner outer i (Some p) at = inl (record { live = names_set t.live i p (settled_peer s inner (floated t.live from (received_peer now outer p))) at (settle_kept now t.live from s inner outer p).name; made = refl; none_removed = refl; notes = refl; swaps = refl; none_made = λ s. refl })
 
 settle_shape : (t : Table) (a : Act) (now peer : ℕ) (from : Option Transport) (s : Settled) (inner outer : ℕ) (i : Option ℕ) → Shape t a (settle_at t now peer from s inner outer i)
 settle_shape t a now peer from s inner outer None = settle_not_live_shape t a now s inner outer (position (λ p. p.serial == peer) t.dying)
 settle_shape t a now peer from s inner outer (Some i) = settle_live_shape t a now from s inner outer i (slice_get t.live i) refl
 
-spent_key_shape : (t : Table) (a : Act) (now i : ℕ) (p : Peer) (key : ℕ) (k : Option Key) → slice_get t.live i ≡ Some p → Shape t a (spent_key t now i p key k)
-spent_key_shape t a now i p key None at = inl (record { live = refl; made = refl; none_removed = refl; notes = refl; none_made = λ s. refl })
-spent_key_shape t a now i p key (Some k) at = inl (record { live = names_set t.live i p (record p { slots = without_key key p.slots }) at refl; made = refl; none_removed = refl; notes = refl; none_made = λ s. refl })
+spent_key_shape : (t : Table) (peer now i : ℕ) (p : Peer) (key : ℕ) (k : Option Key) → slice_get t.live i ≡ Some p → Shape t (act.Spend peer key) (spent_key t now i p key k)
+spent_key_shape t peer now i p key None at = inl (record { live = refl; made = refl; none_removed = refl; notes = refl; swaps = refl; none_made = λ s. refl })
+spent_key_shape t peer now i p key (Some k) at = inl (record { live = names_set t.live i p (record p { slots = without_key key p.slots }) at refl; made = refl; none_removed = refl; notes = refl; swaps = refl; none_made = λ s. refl })
 
-spent_found_shape : (t : Table) (a : Act) (now i key : ℕ) (p : Option Peer) → slice_get t.live i ≡ p → Shape t a (spent_found t now i key p)
-spent_found_shape t a now i key None at = inl (record { live = refl; made = refl; none_removed = refl; notes = refl; none_made = λ s. refl })
-spent_found_shape t a now i key (Some p) at = spent_key_shape t a now i p key (by_key key p.slots) at
+spent_found_shape : (t : Table) (peer now i key : ℕ) (p : Option Peer) → slice_get t.live i ≡ p → Shape t (act.Spend peer key) (spent_found t now i key p)
+spent_found_shape t peer now i key None at = inl (record { live = refl; made = refl; none_removed = refl; notes = refl; swaps = refl; none_made = λ s. refl })
+spent_found_shape t peer now i key (Some p) at = spent_key_shape t peer now i p key (by_key key p.slots) at
 
-spent_shape : (t : Table) (a : Act) (now key : ℕ) (i : Option ℕ) → Shape t a (spent_at t now key i)
-spent_shape t a now key None = inl (record { live = refl; made = refl; none_removed = refl; notes = refl; none_made = λ s. refl })
-spent_shape t a now key (Some i) = spent_found_shape t a now i key (slice_get t.live i) refl
+spent_shape : (t : Table) (peer now key : ℕ) (i : Option ℕ) → Shape t (act.Spend peer key) (spent_at t now key i)
+spent_shape t peer now key None = inl (record { live = refl; made = refl; none_removed = refl; notes = refl; swaps = refl; none_made = λ s. refl })
+spent_shape t peer now key (Some i) = spent_found_shape t peer now i key (slice_get t.live i) refl
 
 -- ---- releases, and every step
 
 released_shape : (t : Table) (a : Act) (now serial : ℕ) (i : Option ℕ) → Shape t a (released_at t now serial i)
-released_shape t a now serial None = inl (record { live = refl; made = refl; none_removed = refl; notes = refl; none_made = λ s. refl })
-released_shape t a now serial (Some i) = inl (record { live = refl; made = refl; none_removed = refl; notes = refl; none_made = λ s. refl })
+released_shape t a now serial None = inl (record { live = refl; made = refl; none_removed = refl; notes = refl; swaps = refl; none_made = λ s. refl })
+released_shape t a now serial (Some i) = inl (record { live = refl; made = refl; none_removed = refl; notes = refl; swaps = refl; none_made = λ s. refl })
 
 key_released_shape : (t : Table) (a : Act) (now serial : ℕ) (i : Option ℕ) → Shape t a (key_released_at t now serial i)
-key_released_shape t a now serial None = inl (record { live = refl; made = refl; none_removed = refl; notes = refl; none_made = λ s. refl })
-key_released_shape t a now serial (Some i) = inl (record { live = refl; made = refl; none_removed = refl; notes = refl; none_made = λ s. refl })
+key_released_shape t a now serial None = inl (record { live = refl; made = refl; none_removed = refl; notes = refl; swaps = refl; none_made = λ s. refl })
+key_released_shape t a now serial (Some i) = inl (record { live = refl; made = refl; none_removed = refl; notes = refl; swaps = refl; none_made = λ s. refl })
 
 shape : (t : Table) (now : ℕ) (a : Act) → Shape t a (act_step t now a)
 unfolding peer_new peer_get remove_peer key_new tx_look rx_look sent settle spend released key_released
@@ -245,9 +249,16 @@ shape t now (act.TxLook a) = tx_shape t (act.TxLook a) now (by_vpn a t.live)
 shape t now (act.RxLook id key_id from) = rx_shape t (act.RxLook id key_id from) now key_id (rx_peer id from t.live)
 shape t now (act.Sent peer inner outer ping) = sent_shape t (act.Sent peer inner outer ping) now peer inner outer ping (position (λ p. p.serial == peer) t.live)
 shape t now (act.Settle peer from k inner outer) = settle_shape t (act.Settle peer from k inner outer) now peer from (settled_as peer k t.live) inner outer (position (λ p. p.serial == peer) t.live)
-shape t now (act.Spend peer key) = spent_shape t (act.Spend peer key) now key (position (λ p. p.serial == peer) t.live)
+shape t now (act.Spend peer key) = spent_shape t peer now key (position (λ p. p.serial == peer) t.live)
 shape t now (act.Released serial) = released_shape t (act.Released serial) now serial (position (λ p. p.serial == serial) t.dying)
 shape t now (act.KeyReleased serial) = key_released_shape t (act.KeyReleased serial) now serial (position (λ k. k.serial == serial) t.retired)
 
+pub call_shape : (t : Table) (call : Call) → Shape t call.act (step t call)
+call_shape t call = shape t _ call.act
+
 pub step_shape : (t : Table) (e : Entry) → Shape t e.call.act (step t e.call)
-step_shape t e = shape t _ e.call.act
+step_shape t e = call_shape t e.call
+
+-- A step's key-swap notes are as many as the keys that it killed.
+pub step_swaps : (t : Table) (e : Entry) → length (filter is_key_swap (step t e.call).notes) ≡ length (killed_by (step t e.call).reply e.call.act)
+step_swaps t e = elim (step_shape t e) [ inl still ↦ still.swaps | inr more ↦ elim more [ inl grows ↦ grows.swaps | inr loses ↦ loses.swaps ] ]

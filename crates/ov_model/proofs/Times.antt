@@ -6,7 +6,7 @@ use Rattle.std.proofs.lemmas.Bool.{cases_eq, eq-eqb, ne_eqb}
 use Rattle.std.proofs.lemmas.List.Elements.{filter-append}
 use Rattle.ov_model.specs.Removals.{times}
 use Rattle.ov_model.proofs.Lanes.{all_weaker, filter_none}
-use Rattle.ov_model.proofs.Noted.{apart_sym}
+use Rattle.ov_model.proofs.RemovedOnce.{apart_sym}
 
 pub times-append : (x : ℕ) (xs ys : List ℕ) → times x (xs ++ ys) ≡ times x xs + times x ys
 times-append x xs ys = rw (filter-append (λ y. y == x) xs ys) (length-append (filter (λ y. y == x) xs) (filter (λ y. y == x) ys))
