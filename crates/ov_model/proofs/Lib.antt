@@ -1,13 +1,14 @@
 pub mod PeerIds
 pub mod Going
 pub mod Lanes
-pub mod Removing
-pub mod Shapes
-pub mod RemovedOnce
-pub mod Noted
 pub mod Times
+pub mod Firsts
+pub mod StepCases
+pub mod Shapes
+pub mod Removing
 pub mod KeysTaken
 pub mod Kills
+pub mod Noted
 pub mod Freed
 pub mod ReplayLemmas
 pub mod Counting
@@ -17,4 +18,5 @@ pub mod NonceLaw
 pub mod SealedLaw
 pub mod Places
 pub mod DeliveryLaw
+pub mod Tallies
 pub mod LifetimeLaw

@@ -7,6 +7,7 @@ use Rattle.std.proofs.lemmas.Bool.{eq-eqb, ne_eqb}
 use Rattle.std.proofs.lemmas.List.{map-append}
 use Rattle.std.proofs.lemmas.List.Elements.{filter-append}
 use Rattle.ov_model.specs.declared.ident.PeerId.{PeerId}
+use Rattle.ov_model.specs.declared.command.Reason.{Reason}
 use Rattle.ov_model.specs.declared.entry.Entry.{Entry}
 use Rattle.ov_model.specs.declared.note.Note.{Note}
 use Rattle.ov_model.specs.declared.note.NoteBody.{NoteBody}
@@ -15,10 +16,11 @@ use Rattle.ov_model.specs.Tables.{Table, empty_table}
 use Rattle.ov_model.specs.Step.{Outcome, step}
 use Rattle.ov_model.specs.Runs.{Follows, IsRun, numbered, notes_after, notes_of}
 use Rattle.ov_model.specs.Path.{removed}
-use Rattle.ov_model.specs.Removals.{id_by, id_in, reason_of, killed_by, is_peer_del, is_key_swap, noted, peer_dels, key_swaps, del_note, RemovalsNoted}
+use Rattle.ov_model.specs.Removals.{id_by, id_in, reason_of, removed_in, killed_by, is_peer_del, is_key_swap, noted, peer_dels, key_swaps, del_note, RemovalsNoted}
 use Rattle.ov_model.proofs.Lanes.{all_append}
-use Rattle.ov_model.proofs.Shapes.{Name, names, step_shape, step_swaps}
-use Rattle.ov_model.proofs.RemovedOnce.{all_at, all_remove, removed_once}
+use Rattle.ov_model.proofs.Shapes.{Name, names, Known, Tells, step_tells}
+use Rattle.ov_model.proofs.Times.{distinct_times}
+use Rattle.ov_model.proofs.KeysTaken.{removed_times}
 use Rattle.ov_model.proofs.Kills.{killed_once}
 
 -- ---- the notes
@@ -59,46 +61,30 @@ own_notes : (is_such : NoteBody → Bool) (n : ℕ) (bodies : List NoteBody) →
 own_notes is_such n [] = refl
 own_notes is_such n (b ∷ bodies) = rw (eq-eqb n n refl) (ap (λ rest. if is_such b then b ∷ rest else rest) (own_notes is_such n bodies))
 
-first_noted : (ids : ℕ → Option PeerId) (n : ℕ) (t : Table) (e : Entry) → (step t e.call).reply ≡ e.reply → AllByRecursion (λ p. ids p.serial ≡ Some p.id) (names t.live) → map (λ b. Some b) (peer_dels (numbered n (step t e.call).notes) n) ≡ told ids e
+told_gone : (ids : ℕ → Option PeerId) (reason : Option Reason) (gone : List Name) → Known ids gone → map (λ (n : Name). del_note (Some n.id) reason) gone ≡ map (λ serial. del_note (ids serial) reason) (map (λ (n : Name). n.serial) gone)
+told_gone ids reason [] known = refl
+told_gone ids reason (n ∷ gone) known = rw (known.0, told_gone ids reason gone known.1) refl
+
+first_noted : (ids : ℕ → Option PeerId) (n : ℕ) (t : Table) (e : Entry) → (step t e.call).reply ≡ e.reply → Known ids (names t.live) → map (λ b. Some b) (peer_dels (numbered n (step t e.call).notes) n) ≡ told ids e
 first_noted ids n t e same known =
+    let s : Tells t e.call.act (step t e.call) = step_tells t e.call in
     let own : peer_dels (numbered n (step t e.call).notes) n ≡ filter is_peer_del (step t e.call).notes = own_notes is_peer_del n (step t e.call).notes in
-    elim (step_shape t e) [
-      | inl still ↦ rw (own, ← same, still.none_removed, still.notes) refl
-      | inr more ↦ elim more [
-        | inl grows ↦ rw (own, ← same, grows.none_removed, grows.notes) refl
-        | inr loses ↦ let id : ids loses.peer.serial ≡ Some loses.peer.id = all_at (λ p. ids p.serial ≡ Some p.id) (names t.live) loses.place loses.peer loses.at known in
-            rw (own, ← same, loses.one_removed, loses.notes, id, loses.reason_is) refl
-      ]
-    ]
+    rw (own, ← same, s.removed_are, s.dels) (told_gone ids (reason_of e.call.act) s.gone (s.were ids known))
 
 -- The ids of the live peers and of the serials that are still to be made, after a step.
 record Knows (ids : ℕ → Option PeerId) (t : Table) (es : List Entry) : Type 0 where
-  live : AllByRecursion (λ p. ids p.serial ≡ Some p.id) (names t.live)
+  live : Known ids (names t.live)
   ahead : (s : ℕ) → t.made ≤ s → ids s ≡ id_in es s
 
 knows_next : (ids : ℕ → Option PeerId) (t : Table) (e : Entry) (es : List Entry) → (step t e.call).reply ≡ e.reply → Knows ids t (e ∷ es) → Knows ids (step t e.call).after es
 knows_next ids t e es same knows =
-    let P : Name → Type 0 = λ p. ids p.serial ≡ Some p.id in
     let r : Reply = (step t e.call).reply in
+    let tells : Tells t e.call.act (step t e.call) = step_tells t e.call in
     let ahead : (s : ℕ) → t.made ≤ s → ids s ≡ option_or (id_by r e.call.act s) (id_in es s) = λ s from. rw same (knows.ahead s from) in
-    elim (step_shape t e) [
-      | inl still ↦ record {
-        live = rw still.live knows.live;
-        ahead = λ s from. ahead s (rw (← still.made) from) ∙ rw (still.none_made s) refl;
-      }
-      | inr more ↦ elim more [
-        | inl grows ↦ record {
-          live = rw grows.live (all_append P (names t.live) (grows.peer ∷ []) knows.live
-              (rw grows.serial (ahead t.made (omega arith) ∙ rw (grows.one_made t.made, eq-eqb t.made t.made refl) refl), tt));
-          ahead = λ s from. let above : t.made + 1 ≤ s = rw (← grows.made) from in
-              ahead s (omega arith) ∙ rw (grows.one_made s, ne_eqb t.made s (λ k. omega arith)) refl;
-        }
-        | inr loses ↦ record {
-          live = rw loses.live (all_remove P (names t.live) loses.place knows.live);
-          ahead = λ s from. ahead s (rw (← loses.made) from) ∙ rw (loses.none_made s) refl;
-        }
-      ]
-    ]
+    record {
+      live = tells.live ids knows.live (λ id given. ahead t.made (omega arith) ∙ rw given refl);
+      ahead = λ s from. let grows : t.made ≤ (step t e.call).after.made = tells.grows in ahead s (omega arith) ∙ rw (tells.unmade s from) refl;
+    }
 
 each_noted : (ids : ℕ → Option PeerId) (m n i : ℕ) (t : Table) (es : List Entry) (e : Entry) → m ≡ n + i → Follows t es → Knows ids t es → slice_get es i ≡ Some e → map (λ b. Some b) (peer_dels (notes_after n t es) m) ≡ told ids e
 each_noted ids m n i t [] e is follows knows at = cc
@@ -120,7 +106,7 @@ each_swapped m n zero t (x ∷ es) e is follows at =
     let here : m ≡ n = omega arith in
     let its : x ≡ e = cc in
     let own : key_swaps (numbered n (step t x.call).notes) n ≡ filter is_key_swap (step t x.call).notes = own_notes is_key_swap n (step t x.call).notes in
-    let first : length (key_swaps (notes_after n t (x ∷ es)) n) ≡ length (killed_by x.reply x.call.act) = rw (first_notes is_key_swap n t x es, own, ← follows.1) (step_swaps t x) in
+    let first : length (key_swaps (notes_after n t (x ∷ es)) n) ≡ length (killed_by x.reply x.call.act) = rw (first_notes is_key_swap n t x es, own, ← follows.1) (step_tells t x.call).swaps in
     rw (here, ← its) first
 each_swapped m n (suc i) t (x ∷ es) e is follows at =
     rw (later_notes is_key_swap m n t x es (omega arith)) (each_swapped m (n + 1) i (step t x.call).after es e (omega arith) follows.2 at)
@@ -141,7 +127,7 @@ notes_within n last t (e ∷ es) long =
 pub removals_noted : (journal : List Entry) → IsRun journal → RemovalsNoted journal (notes_of journal)
 removals_noted journal run = record {
   each = λ n e at. each_noted (id_in journal) n 0 n empty_table journal e (omega arith) run (record { live = tt; ahead = λ s from. refl }) at;
-  once = removed_once empty_table journal run tt tt;
+  once = distinct_times (removed_in journal) (λ x. removed_times x journal run);
   swaps = λ n e at. each_swapped n 0 n empty_table journal e (omega arith) run at;
   killed_once = λ i j key a b at other kills again. killed_once journal run i j key a b at other kills again;
   within = notes_within 0 (length journal) empty_table journal (omega arith);
