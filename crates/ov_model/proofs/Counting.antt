@@ -1,52 +1,37 @@
 -- Packet ids that are the numbers from the first on, in order.
-use Rattle.std.proofs.Common.{ℕ, ◌≡◌, ◌+◌, ◌<◌, zero, suc, List, [], ◌∷◌, ◌++◌, length, refl, sym, ◌∙◌, ap, arith, append-nil, append_assoc, inl, inr, nat_le, nat_lt, ◌==◌, ◌&&◌, if◌then◌else◌}
+use Rattle.std.proofs.Common.{ℕ, ◌≡◌, ◌+◌, ◌<◌, zero, suc, List, [], ◌∷◌, ◌++◌, length, refl, sym, ◌∙◌, ap, arith, append-nil, append_assoc, inl, inr, ◌==◌}
 use Rattle.std.specs.Prelude.{filter}
-use Rattle.std.specs.List.{AllByRecursion}
+use Rattle.std.specs.List.{AllPairs, range_with_len}
+use Rattle.std.proofs.lemmas.List.FromFn.{length-range_with_len, get_or-range_with_len}
+use Rattle.ov_base.specs.Sums.{between}
 use Rattle.std.proofs.lemmas.Bool.{cases_eq, eq-eqb, ne_eqb}
 use Rattle.std.proofs.lemmas.Bool.Decides.{nat_tests}
 use Rattle.std.proofs.lemmas.List.{map-append}
 use Rattle.std.proofs.lemmas.List.Elements.{filter-append}
 use Rattle.ov_model.specs.declared.answer.Answer.{Answer}
 use Rattle.ov_model.specs.Events.{DrawnId, Event, Stepped, Judged, Drew, GaveKey, GavePeer, draws_in, drawn_id}
-use Rattle.ov_model.specs.Keys.{sealed_ids, sealed_in, ids_under, ids_of, Rises}
+use Rattle.ov_model.specs.Keys.{sealed_ids, sealed_in, ids_under, ids_of}
 use Rattle.ov_model.specs.Removals.{times}
 
 -- The numbers from the first on, so many.
 abbrev pub counted : ℕ → ℕ → List ℕ
-counted first zero = []
-counted first (suc count) = first ∷ counted (first + 1) count
+counted first count = range_with_len first count
 
-pub length-counted : (first count : ℕ) → length (counted first count) ≡ count
-length-counted first zero = refl
-length-counted first (suc count) = rw (length-counted (first + 1) count) refl
+-- They rise.
+pub rises_counted : (first count : ℕ) → AllPairs (λ m n. m < n) (counted first count)
+rises_counted first count i j d before below =
+    let long : length (counted first count) ≡ count = length-range_with_len first count in
+    rw (get_or-range_with_len first count i d (omega arith), get_or-range_with_len first count j d (omega arith)) (omega arith)
 
-pub counted_more : (first count : ℕ) → counted first (suc count) ≡ counted first count ++ (first + count) ∷ []
-counted_more first zero = let same : first + 0 ≡ first = omega arith in rw same refl
-counted_more first (suc count) =
-    let same : first + 1 + count ≡ first + suc count = omega arith in
-    let later : counted (first + 1) (suc count) ≡ counted (first + 1) count ++ (first + suc count) ∷ [] = rw (← same) (counted_more (first + 1) count) in
-    ap (λ ns. first ∷ ns) later
-
-above_counted : (n first count : ℕ) → n < first → AllByRecursion (λ m. n < m) (counted first count)
-above_counted n first zero below = tt
-above_counted n first (suc count) below = (below, above_counted n (first + 1) count (omega arith))
-
-pub rises_counted : (first count : ℕ) → Rises (counted first count)
-rises_counted first zero = tt
-rises_counted first (suc count) = (above_counted first (first + 1) count (omega arith), rises_counted (first + 1) count)
-
-abbrev within : ℕ → ℕ → ℕ → ℕ
-within first count n = if nat_le first n && nat_lt n (first + count) then 1 else 0
-
-pub times_counted : (first count n : ℕ) → times n (counted first count) ≡ within first count n
+pub times_counted : (first count n : ℕ) → times n (counted first count) ≡ between first (first + count) n
 times_counted first zero n = grind (arith, nat_tests)
 times_counted first (suc count) n =
     elim (cases_eq first n) [
       | inl same ↦
-          let later : times n (counted (first + 1) count) ≡ within (first + 1) count n = times_counted (first + 1) count n in
+          let later : times n (counted (first + 1) count) ≡ between (first + 1) (first + 1 + count) n = times_counted (first + 1) count n in
           rw (eq-eqb first n same, later) (grind (arith, nat_tests))
       | inr other ↦
-          let later : times n (counted (first + 1) count) ≡ within (first + 1) count n = times_counted (first + 1) count n in
+          let later : times n (counted (first + 1) count) ≡ between (first + 1) (first + 1 + count) n = times_counted (first + 1) count n in
           rw (ne_eqb first n other, later) (grind (arith, nat_tests))
     ]
 

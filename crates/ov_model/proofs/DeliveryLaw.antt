@@ -1,5 +1,5 @@
 -- A received datagram is delivered exactly where its parts say so.
-use Rattle.std.proofs.Common.{ℕ, ◌≡◌, ◌≢◌, List, [], ◌∷◌, ◌++◌, length, refl, sym, ◌∙◌, subst, ap, Bool, ◌==◌, inl, inr}
+use Rattle.std.proofs.Common.{ℕ, ◌≡◌, ◌≢◌, List, [], ◌∷◌, ◌++◌, length, refl, sym, ◌∙◌, subst, ap, ◌==◌, inl, inr}
 use Rattle.std.specs.Prelude.{max, Option, Some, None, IsSome, unwrap_or, position, slice_get, if◌then◌else◌}
 use Rattle.std.specs.List.{AllByRecursion}
 use Rattle.std.proofs.lemmas.Bool.{cases_eq, eq-eqb, ne_eqb}
@@ -21,11 +21,13 @@ use Rattle.ov_model.specs.declared.reply.Reply.{Reply}
 use Rattle.ov_model.specs.declared.reply.Reply.TheVariants as reply
 use Rattle.ov_model.specs.declared.reply.Settled.{Settled}
 use Rattle.ov_model.specs.declared.reply.Settled.TheVariants as settled
+use Rattle.ov_model.specs.declared.replay.ReplayEntry.{ReplayEntry}
 use Rattle.ov_model.specs.declared.replay.Verdict.TheVariants.{Accept}
 use Rattle.ov_model.specs.declared.replay.Refusal.{Refusal}
 use Rattle.ov_model.specs.declared.replay.Refusal.TheVariants as refusal
 use Rattle.ov_model.specs.declared.answer.Answer.{Answer}
 use Rattle.ov_model.specs.declared.answer.Answer.TheVariants as answer
+use Rattle.ov_model.specs.declared.stand.Use.{Use}
 use Rattle.ov_model.specs.declared.stand.Use.TheVariants as used
 use Rattle.ov_model.specs.declared.line.Line.{Line}
 use Rattle.ov_model.specs.declared.line.Deed.{Deed}
@@ -39,15 +41,15 @@ use Rattle.ov_model.specs.Step.{is_serial, settled_as, settle_dying, settle_not_
 use Rattle.ov_model.specs.Runs.{IsRun}
 use Rattle.ov_model.specs.Packets.{HeadKind, short, data_v1, control, data_v2, head_of, Kind, from_source, ping, no_source, kind_of, opened, packet_id_of}
 use Rattle.ov_model.specs.Events.{Step, Judgement, of, shown_in, steps_of, step_of, release_of, releases}
-use Rattle.ov_model.specs.Path.{first, begins_rx, rx_look_by, packet_in, kind_via, settle_act, UseFits, refused_as, hold_owed, Row, AtOnce, Commanded, Missed, Held, IsMiss, RowFits, use_steps, use_judgements, row_steps, row_judgements, row_answer}
+use Rattle.ov_model.specs.Path.{first, begins_rx, rx_look_by, packet_in, kind_via, settle_act, replay_of, UseFits, refused_as, hold_owed, Columns, rx_row, use_row, IsMiss, Path, by_at_once, by_command, by_miss, by_round}
 use Rattle.ov_model.specs.Keys.{key_of}
 use Rattle.ov_model.specs.Legal.{Meets, Legal}
-use Rattle.ov_model.specs.Laws.{answer_at}
-use Rattle.ov_model.specs.Delivery.{Receives, IsReceived, IsSettle, table_before, Delivers}
+use Rattle.ov_model.specs.Laws.{HasDeed, Receives, LooksUp, judged_at, answer_at, AcceptsOnce}
+use Rattle.ov_model.specs.Delivery.{IsReceived, IsSettleOf, table_before, Delivers, DeliveredUnder, DeliversOnce}
 use Rattle.ov_model.proofs.Lanes.{all_append, here}
 use Rattle.ov_model.proofs.NonceLaw.{InLane, in_lane}
-use Rattle.ov_model.proofs.SealedLaw.{IsMade, at_once_not_made}
-use Rattle.ov_model.proofs.Places.{entry_has, EntryAt, step_entry, judged_has, JudgedAt, judged_found, reply_at}
+use Rattle.ov_model.proofs.SealedLaw.{at_once_not_made}
+use Rattle.ov_model.proofs.Places.{entry_has, step_entry, judged_has, judged_found, reply_at}
 
 -- ---- what settling replies
 
@@ -108,17 +110,17 @@ owner_delivers peer k live source owner kind found owns = rw (kind, found, eq-eq
 
 -- ---- how a received datagram's line begins
 
-look_begins : (id : Option PeerId) (key : Option KeyId) (from : Transport) (a : Act) → rx_look_by id key from ≡ first a → IsSettle a → ⊥
-look_begins None None from a is settles = cc
-look_begins None (Some k) from a is settles = cc
-look_begins (Some i) None from a is settles = cc
-look_begins (Some i) (Some k) from a is settles = let its : a ≡ act.RxLook i k from = cc in subst IsSettle its settles
+look_begins : (peer : ℕ) (id : Option PeerId) (key : Option KeyId) (from : Transport) (a : Act) → rx_look_by id key from ≡ first a → IsSettleOf peer a → ⊥
+look_begins peer None None from a is settles = cc
+look_begins peer None (Some k) from a is settles = cc
+look_begins peer (Some i) None from a is settles = cc
+look_begins peer (Some i) (Some k) from a is settles = let its : a ≡ act.RxLook i k from = cc in subst (IsSettleOf peer) its settles
 
-rx_begins : (from : Transport) (head : HeadKind) (a : Act) → begins_rx from head ≡ first a → IsSettle a → ⊥
-rx_begins from short a is settles = cc
-rx_begins from data_v1 a is settles = cc
-rx_begins from control a is settles = cc
-rx_begins from (data_v2 id key n) a is settles = look_begins (peer_id id) (key_id key) from a is settles
+rx_begins : (peer : ℕ) (from : Transport) (head : HeadKind) (a : Act) → begins_rx from head ≡ first a → IsSettleOf peer a → ⊥
+rx_begins peer from short a is settles = cc
+rx_begins peer from data_v1 a is settles = cc
+rx_begins peer from control a is settles = cc
+rx_begins peer from (data_v2 id key n) a is settles = look_begins peer (peer_id id) (key_id key) from a is settles
 
 no_command_by : (id : Option PeerId) (key : Option KeyId) (from : Transport) (c : Command) → rx_look_by id key from ≡ first (act.Do c) → ⊥
 no_command_by None None from c is = cc
@@ -134,116 +136,165 @@ no_command from (data_v2 id key n) c is = no_command_by (peer_id id) (key_id key
 
 -- ---- the row of a delivered answer
 
-record DeliveredRow (material : ℕ → Option Material) (line : Line) (row : Row) (id : PeerId) (packet : List ℕ) : Type 0 where
-  a : Act
-  h : HoldView
-  m : Material
-  key : Bool
-  peer : Bool
-  row_is : row ≡ Held a h m (used.Settled settled.Deliver) key peer
-  id_is : h.id ≡ id
-  packet_is : packet_in line.deed m ≡ packet
-  material_is : material h.key ≡ Some m
-  fits : UseFits line.deed m (used.Settled settled.Deliver)
-
-delivered_row : (material : ℕ → Option Material) (via : Addr → Addr) (line : Line) (id : PeerId) (packet : List ℕ) (row : Row) → RowFits material via line row → answer.Delivered id packet ≡ row_answer line row → DeliveredRow material line row id packet
-delivered_row material via line id packet (AtOnce a) fits is = absurd (at_once_not_made via line.deed a fits (subst IsMade is tt))
-delivered_row material via line id packet (Commanded c r taken os) fits is = cc
-delivered_row material via line id packet (Missed a r cause) fits is = cc
-delivered_row material via line id packet (Held a h m (used.Sealed n) key peer) fits is = cc
-delivered_row material via line id packet (Held a h m (used.Spent killed) key peer) fits is = cc
-delivered_row material via line id packet (Held a h m used.BadTag key peer) fits is = cc
-delivered_row material via line id packet (Held a h m (used.Refused v) key peer) fits is = cc
-delivered_row material via line id packet (Held a h m (used.Settled settled.Deliver) key peer) fits is =
-    let id_is : h.id ≡ id = cc in
-    let packet_is : packet_in line.deed m ≡ packet = cc in
-    record { a = a; h = h; m = m; key = key; peer = peer; row_is = refl; id_is = id_is; packet_is = packet_is; material_is = fits.1; fits = fits.2 }
-delivered_row material via line id packet (Held a h m (used.Settled settled.Ping) key peer) fits is = cc
-delivered_row material via line id packet (Held a h m (used.Settled settled.NotIp) key peer) fits is = cc
-delivered_row material via line id packet (Held a h m (used.Settled settled.NotOwner) key peer) fits is = cc
-
 opens_to : (o : Option (List ℕ)) (packet : List ℕ) → IsSome o → unwrap_or o [] ≡ packet → o ≡ Some packet
 opens_to None packet some is = cc
 opens_to (Some p) packet some is = ap (λ q. Some q) is
 
--- ---- the path of a line that received a datagram
+-- Only a received datagram is delivered, and what it opens to is the packet.
+record DeliversUse (via : Addr → Addr) (place : Place) (at : ℕ) (d : Deed) (h : HoldView) (m : Material) (u : Use) (id : PeerId) (packet : List ℕ) : Type 0 where
+  from : Transport
+  bytes : List ℕ
+  deed_is : d ≡ deed.Rx from bytes
+  id_is : h.id ≡ id
+  opens : opened m.decrypt bytes ≡ Some packet
+  row_is : use_row via place at d h m u ≡ rx_row via place at h packet bytes (used.Settled settled.Deliver)
 
-record LinePath (report : Report) (lane line : ℕ) (from : Transport) (bytes : List ℕ) (a : Answer) : Type 0 where
+delivers_use : (via : Addr → Addr) (place : Place) (at : ℕ) (d : Deed) (h : HoldView) (m : Material) (u : Use) (id : PeerId) (packet : List ℕ) → UseFits d m u → answer.Delivered id packet ≡ (use_row via place at d h m u).answer → DeliversUse via place at d h m u id packet
+delivers_use via place at (deed.Netlink n) h m u id packet fits is = absurd fits
+delivers_use via place at (deed.Tx p) h m (used.Sealed n) id packet fits is = cc
+delivers_use via place at (deed.Tx p) h m (used.Spent killed) id packet fits is = cc
+delivers_use via place at (deed.Tx p) h m used.BadTag id packet fits is = absurd fits
+delivers_use via place at (deed.Tx p) h m (used.Refused x) id packet fits is = absurd fits
+delivers_use via place at (deed.Tx p) h m (used.Settled x) id packet fits is = absurd fits
+delivers_use via place at (deed.Rx from bytes) h m (used.Sealed n) id packet fits is = absurd fits
+delivers_use via place at (deed.Rx from bytes) h m (used.Spent killed) id packet fits is = absurd fits
+delivers_use via place at (deed.Rx from bytes) h m used.BadTag id packet fits is = cc
+delivers_use via place at (deed.Rx from bytes) h m (used.Refused x) id packet fits is = cc
+delivers_use via place at (deed.Rx from bytes) h m (used.Settled settled.Deliver) id packet fits is =
+    let id_is : h.id ≡ id = cc in
+    let packet_is : unwrap_or (opened m.decrypt bytes) [] ≡ packet = cc in
+    record { from = from; bytes = bytes; deed_is = refl; id_is = id_is; opens = opens_to (opened m.decrypt bytes) packet fits packet_is; row_is = ap (λ p. rx_row via place at h p bytes (used.Settled settled.Deliver)) packet_is }
+delivers_use via place at (deed.Rx from bytes) h m (used.Settled settled.Ping) id packet fits is = cc
+delivers_use via place at (deed.Rx from bytes) h m (used.Settled settled.NotIp) id packet fits is = cc
+delivers_use via place at (deed.Rx from bytes) h m (used.Settled settled.NotOwner) id packet fits is = cc
+
+record DeliveredRow (material : ℕ → Option Material) (place : Place) (line : Line) (ss : List Step) (js : List Judgement) (id : PeerId) (packet : List ℕ) : Type 0 where
+  x : Act
+  h : HoldView
+  m : Material
+  os : List Owed
+  from : Transport
+  bytes : List ℕ
+  deed_is : line.deed ≡ deed.Rx from bytes
+  id_is : h.id ≡ id
+  material_is : material h.key ≡ Some m
+  opens : opened m.decrypt bytes ≡ Some packet
+  steps : ss ≡ step_of place line.at x (reply.Hold h) [] ∷ step_of place line.at (settle_act (λ b. b) h packet bytes) (reply.Settled settled.Deliver) [] ∷ releases place line.at os
+  judgements : js ≡ replay_of place line.at h bytes Accept ∷ []
+
+delivered_row : (material : ℕ → Option Material) (place : Place) (line : Line) (ss : List Step) (js : List Judgement) (id : PeerId) (packet : List ℕ) → Path material (λ b. b) place line ss js (answer.Delivered id packet) → DeliveredRow material place line ss js id packet
+delivered_row material place line ss js id packet (by_at_once r) = absurd (at_once_not_made (λ b. b) line.deed (answer.Delivered id packet) r.begins_so tt)
+delivered_row material place line ss js id packet (by_command r) = let is = r.answer_is in cc
+delivered_row material place line ss js id packet (by_miss r) = let is = r.answer_is in cc
+delivered_row material place line ss js id packet (by_round r) =
+    let u = delivers_use (λ b. b) place line.at line.deed r.round.hold r.round.material r.round.made id packet r.fits.1 r.answer_is in
+    let look : Step = step_of place line.at r.round.look (reply.Hold r.round.hold) [] in
+    let os : List Owed = hold_owed r.round.hold r.round.key r.round.peer in
+    record {
+      x = r.round.look;
+      h = r.round.hold;
+      m = r.round.material;
+      os = os;
+      from = u.from;
+      bytes = u.bytes;
+      deed_is = u.deed_is;
+      id_is = u.id_is;
+      material_is = r.fits.0;
+      opens = u.opens;
+      steps = r.steps_are ∙ ap (λ (c : Columns). look ∷ (c.steps ++ releases place line.at os)) u.row_is;
+      judgements = r.judgements_are ∙ ap (λ (c : Columns). c.judgements) u.row_is;
+    }
+
+-- ---- the path of a line that is answered
+
+-- A line of the report with its path.
+record LinePath (report : Report) (lane line : ℕ) (a : Answer) : Type 0 where
+  log : LaneLog
+  log_is : slice_get report.lanes lane ≡ Some log
   its : Line
-  deed_is : its.deed ≡ deed.Rx from bytes
-  row : Row
-  fits : RowFits (key_of report.journal) (λ b. b) its row
-  steps_are : of (steps_of report.journal) lane line ≡ row_steps (λ b. b) (record { lane = lane; line = line }) its row
-  judgements_are : shown_in report.shards lane line ≡ row_judgements (record { lane = lane; line = line }) its row
-  answer_is : a ≡ row_answer its row
+  its_is : slice_get log.lines line ≡ Some its
+  path : Path (key_of report.journal) (λ b. b) (record { lane = lane; line = line }) its (of (steps_of report.journal) lane line) (shown_in report.shards lane line) a
 
-line_path : (script : Script) (start : ℕ) (report : Report) → Legal script start report → (lane line : ℕ) (from : Transport) (bytes : List ℕ) (a : Answer) → Receives report lane line from bytes → answer_at report.lanes lane line ≡ Some a → LinePath report lane line from bytes a
-line_path script start report legal lane line from bytes a receives at =
+line_path : (script : Script) (start : ℕ) (report : Report) → Legal script start report → (lane line : ℕ) (a : Answer) → answer_at report.lanes lane line ≡ Some a → LinePath report lane line a
+line_path script start report legal lane line a at =
     let x : InLane report.lanes lane line a = in_lane report.lanes lane line a at in
     let meets : Meets (key_of report.journal) (λ b. b) (steps_of report.journal) report.shards lane x.log.lines x.log.answers line = (legal.lines.each lane x.log x.log_is).each line (slice_get_within x.log.answers line a x.at) in
     let answers : Some meets.answer ≡ Some a = sym meets.answer_is ∙ x.at in
     let same : meets.answer ≡ a = cc in
-    let logs : Some receives.log ≡ Some x.log = sym receives.log_is ∙ x.log_is in
-    let log : receives.log ≡ x.log = cc in
-    let lines : Some meets.line ≡ Some receives.its = sym meets.line_is ∙ ap (λ (l : LaneLog). slice_get l.lines line) (sym log) ∙ receives.its_is in
-    let its : meets.line ≡ receives.its = cc in
-    record { its = meets.line; deed_is = ap (λ (l : Line). l.deed) its ∙ receives.deed_is; row = meets.path.row; fits = meets.path.fits; steps_are = meets.path.steps_are; judgements_are = meets.path.judgements_are; answer_is = sym same ∙ meets.path.answer_is }
+    record { log = x.log; log_is = x.log_is; its = meets.line; its_is = meets.line_is; path = subst (Path (key_of report.journal) (λ b. b) (record { lane = lane; line = line }) meets.line (of (steps_of report.journal) lane line) (shown_in report.shards lane line)) same meets.path }
+
+-- Its deed is the line's.
+path_deed : (report : Report) (lane line : ℕ) (a : Answer) (path : LinePath report lane line a) (d : Deed) → HasDeed report lane line d → path.its.deed ≡ d
+path_deed report lane line a path d has =
+    let logs : Some has.log ≡ Some path.log = sym has.log_is ∙ path.log_is in
+    let log : has.log ≡ path.log = cc in
+    let lines : Some path.its ≡ Some has.its = sym path.its_is ∙ ap (λ (l : LaneLog). slice_get l.lines line) (sym log) ∙ has.its_is in
+    let its : path.its ≡ has.its = cc in
+    ap (λ (l : Line). l.deed) its ∙ has.deed_is
 
 -- ---- delivered: what the report shows
 
+-- A delivered line with its row.
+record DeliveredLine (report : Report) (lane line : ℕ) (id : PeerId) (packet : List ℕ) : Type 0 where
+  path : LinePath report lane line (answer.Delivered id packet)
+  row : DeliveredRow (key_of report.journal) (record { lane = lane; line = line }) path.its (of (steps_of report.journal) lane line) (shown_in report.shards lane line) id packet
+
+delivered_line : (script : Script) (start : ℕ) (report : Report) → Legal script start report → (lane line : ℕ) (id : PeerId) (packet : List ℕ) → answer_at report.lanes lane line ≡ Some (answer.Delivered id packet) → DeliveredLine report lane line id packet
+delivered_line script start report legal lane line id packet at =
+    let path : LinePath report lane line (answer.Delivered id packet) = line_path script start report legal lane line (answer.Delivered id packet) at in
+    record { path = path; row = delivered_row (key_of report.journal) (record { lane = lane; line = line }) path.its _ _ id packet path.path }
+
+-- What it received.
+its_bytes : (report : Report) (lane line : ℕ) (id : PeerId) (packet : List ℕ) (l : DeliveredLine report lane line id packet) (from : Transport) (bytes : List ℕ) → Receives report lane line from bytes → l.row.bytes ≡ bytes
+its_bytes report lane line id packet l from bytes receives =
+    let deeds : deed.Rx l.row.from l.row.bytes ≡ deed.Rx from bytes = sym l.row.deed_is ∙ path_deed report lane line (answer.Delivered id packet) l.path (deed.Rx from bytes) receives in
+    cc
+
 -- What a delivered line's path and run give.
-pub delivered_shows : (script : Script) (start : ℕ) (report : Report) → Legal script start report → (lane line : ℕ) (from : Transport) (bytes : List ℕ) (a : Answer) → Receives report lane line from bytes → answer_at report.lanes lane line ≡ Some a → (id : PeerId) (packet : List ℕ) → a ≡ answer.Delivered id packet → Delivers report lane line bytes id packet
-delivered_shows script start report legal lane line from bytes a receives at id packet is =
-    let material : ℕ → Option Material = key_of report.journal in
-    let via : Addr → Addr = λ b. b in
+pub delivered_shows : (script : Script) (start : ℕ) (report : Report) → Legal script start report → (lane line : ℕ) (from : Transport) (bytes : List ℕ) → Receives report lane line from bytes → (id : PeerId) (packet : List ℕ) → answer_at report.lanes lane line ≡ Some (answer.Delivered id packet) → Delivers report lane line bytes id packet
+delivered_shows script start report legal lane line from bytes receives id packet answered =
     let place : Place = record { lane = lane; line = line } in
-    let path : LinePath report lane line from bytes a = line_path script start report legal lane line from bytes a receives at in
-    let row : DeliveredRow material path.its path.row id packet = delivered_row material via path.its id packet path.row path.fits (sym is ∙ path.answer_is) in
-    let some : IsSome (opened row.m.decrypt bytes) = subst (λ (d : Deed). UseFits d row.m (used.Settled settled.Deliver)) path.deed_is row.fits in
-    let packet_is : unwrap_or (opened row.m.decrypt bytes) [] ≡ packet = ap (λ (d : Deed). packet_in d row.m) (sym path.deed_is) ∙ row.packet_is in
-    let opens : opened row.m.decrypt bytes ≡ Some packet = opens_to (opened row.m.decrypt bytes) packet some packet_is in
-    let look : Step = step_of place path.its.at row.a (reply.Hold row.h) [] in
-    let settles : Step = step_of place path.its.at (settle_act via row.h (packet_in (deed.Rx from bytes) row.m) bytes) (reply.Settled settled.Deliver) [] in
-    let gives : List Step = releases place path.its.at (hold_owed row.h row.key row.peer) in
-    let steps : of (steps_of report.journal) lane line ≡ look ∷ settles ∷ gives = path.steps_are ∙ ap (λ (r : Row). row_steps via place path.its r) row.row_is
-    ∙ ap (λ (d : Deed). look ∷ (use_steps via place path.its.at d row.h row.m (used.Settled settled.Deliver) ++ gives)) path.deed_is in
-    let judgement : Judgement = record { place = place; key = row.h.key; id = packet_id_of bytes; at = path.its.at; verdict = Accept } in
-    let judgements : shown_in report.shards lane line ≡ judgement ∷ [] = path.judgements_are ∙ ap (λ (r : Row). row_judgements place path.its r) row.row_is
-    ∙ ap (λ (d : Deed). use_judgements place path.its.at d row.h (used.Settled settled.Deliver)) path.deed_is in
-    let look_at : EntryAt report.journal look.entry = step_entry empty_table report.journal lane line 0 look (ap (λ (ss : List Step). slice_get ss 0) steps) in
-    let settle_at : EntryAt report.journal settles.entry = step_entry empty_table report.journal lane line 1 settles (ap (λ (ss : List Step). slice_get ss 1) steps) in
-    let judged : JudgedAt report.shards judgement = judged_found report.shards lane line 0 judgement (ap (λ (js : List Judgement). slice_get js 0) judgements) in
-    let inner : List ℕ = packet_in (deed.Rx from bytes) row.m in
+    let l : DeliveredLine report lane line id packet = delivered_line script start report legal lane line id packet answered in
+    let row = l.row in
+    let at : ℕ = l.path.its.at in
+    let settle : Entry = (step_of place at (settle_act (λ b. b) row.h packet row.bytes) (reply.Settled settled.Deliver) []).entry in
+    let look_at = step_entry empty_table report.journal lane line 0 (step_of place at row.x (reply.Hold row.h) []) (ap (λ (ss : List Step). slice_get ss 0) row.steps) in
+    let settle_at = step_entry empty_table report.journal lane line 1 (step_of place at (settle_act (λ b. b) row.h packet row.bytes) (reply.Settled settled.Deliver) []) (ap (λ (ss : List Step). slice_get ss 1) row.steps) in
+    let judged = judged_found report.shards lane line 0 (replay_of place at row.h row.bytes Accept) (ap (λ (js : List Judgement). slice_get js 0) row.judgements) in
     let before : Table = table_before report.journal settle_at.n in
-    let deliver : settled_as row.h.peer (kind_via via (kind_of inner)) before.live ≡ settled.Deliver = settled_so report.journal legal.journal.runs settle_at.n settles.entry row.h inner bytes settled.Deliver settle_at.at refl refl in
-    let own : Owned row.h.peer (kind_of inner) before.live = owned row.h.peer (kind_of inner) before.live deliver in
-    let source_is : kind_of packet ≡ from_source own.source = ◌∙◌ {b = kind_of inner} (ap kind_of (sym packet_is)) own.source_is in
-    record {
+    let deliver : settled_as row.h.peer (kind_via (λ b. b) (kind_of packet)) before.live ≡ settled.Deliver = settled_so report.journal legal.journal.runs settle_at.n settle row.h packet row.bytes settled.Deliver settle_at.at refl refl in
+    let own : Owned row.h.peer (kind_of packet) before.live = owned row.h.peer (kind_of packet) before.live deliver in
+    subst (λ b. Delivers report lane line b id packet) (its_bytes report lane line id packet l from bytes receives) (record {
       hold = row.h;
-      look = look_at.n;
-      look_entry = look.entry;
-      looked = record { at = look_at.at; place = refl };
-      held = refl;
+      held = record { n = look_at.n; entry = (step_of place at row.x (reply.Hold row.h) []).entry; made = record { at = look_at.at; place = refl }; held = refl };
       id_is = row.id_is;
       material = row.m;
       material_is = row.material_is;
-      opens = opens;
+      opens = row.opens;
       shard = judged.shard;
       place = judged.i;
       replay = judged.r;
       judged = judged.at;
       judged_by = ap (λ (j : Judgement). j.place) judged.is;
+      key_is = ap (λ (j : Judgement). j.key) judged.is;
+      packet_id_is = ap (λ (j : Judgement). j.id) judged.is;
       fresh = ap (λ (j : Judgement). j.verdict) judged.is;
       settle = settle_at.n;
-      settle_entry = settles.entry;
+      settle_entry = settle;
       settled = record { at = settle_at.at; place = refl };
-      is_settle = tt;
+      settles = refl;
       source = own.source;
-      source_is = source_is;
+      source_is = own.source_is;
       owner = own.owner;
       owner_is = own.owner_is;
       owns = own.owns;
-    }
+    })
+
+-- Only what was received is delivered.
+pub delivered_received : (script : Script) (start : ℕ) (report : Report) → Legal script start report → (lane line : ℕ) (id : PeerId) (packet : List ℕ) → answer_at report.lanes lane line ≡ Some (answer.Delivered id packet) → IsReceived report lane line
+delivered_received script start report legal lane line id packet answered =
+    let l : DeliveredLine report lane line id packet = delivered_line script start report legal lane line id packet answered in
+    record { from = l.row.from; bytes = l.row.bytes; receives = record { log = l.path.log; log_is = l.path.log_is; its = l.path.its; its_is = l.path.its_is; deed_is = l.row.deed_is } }
 
 -- ---- what the report shows: delivered
 
@@ -259,30 +310,24 @@ release_holds : (h : HoldView) (place : Place) (at : ℕ) (o : Owed) → Holds h
 release_holds h place at (owed.Peer p) k is = cc
 release_holds h place at (owed.Key key) k is = cc
 
--- An entry that settles is this one.
-abbrev Settles : Act → Settled → Entry → Type 0
-Settles a s e = IsSettle e.call.act → (e.call.act ≡ a) × (e.reply ≡ reply.Settled s)
+-- An entry that settles a packet of the peer is this one.
+abbrev Settles : ℕ → Act → Settled → Entry → Type 0
+Settles peer a s e = IsSettleOf peer e.call.act → (e.call.act ≡ a) × (e.reply ≡ reply.Settled s)
 
-release_settles : (a : Act) (s : Settled) (place : Place) (at : ℕ) (o : Owed) → Settles a s (release_of place at o).entry
-release_settles a s place at (owed.Peer p) settles = absurd settles
-release_settles a s place at (owed.Key key) settles = absurd settles
+release_settles : (peer : ℕ) (a : Act) (s : Settled) (place : Place) (at : ℕ) (o : Owed) → Settles peer a s (release_of place at o).entry
+release_settles peer a s place at (owed.Peer p) settles = absurd settles
+release_settles peer a s place at (owed.Key key) settles = absurd settles
 
 -- What the entry of the line's look-up is, by the line's steps.
-look_has : (report : Report) (lane line : ℕ) (bytes : List ℕ) (id : PeerId) (packet : List ℕ) (d : Delivers report lane line bytes id packet) (P : Entry → Type 0) (ss : List Step) → of (steps_of report.journal) lane line ≡ ss → AllByRecursion (λ s. P s.entry) ss → P d.look_entry
+look_has : (report : Report) (lane line : ℕ) (bytes : List ℕ) (id : PeerId) (packet : List ℕ) (d : Delivers report lane line bytes id packet) (P : Entry → Type 0) (ss : List Step) → of (steps_of report.journal) lane line ≡ ss → AllByRecursion (λ s. P s.entry) ss → P d.held.entry
 look_has report lane line bytes id packet d P ss steps all =
-    entry_has P empty_table report.journal lane line d.look d.look_entry (subst (λ (l : List Step). AllByRecursion (λ s. P s.entry) l) (sym steps) all) d.looked.at (here lane line d.look_entry.place d.looked.place)
+    entry_has P empty_table report.journal lane line d.held.n d.held.entry (subst (λ (l : List Step). AllByRecursion (λ s. P s.entry) l) (sym steps) all) d.held.made.at (here lane line d.held.entry.place d.held.made.place)
 
 settle_has : (report : Report) (lane line : ℕ) (bytes : List ℕ) (id : PeerId) (packet : List ℕ) (d : Delivers report lane line bytes id packet) (P : Entry → Type 0) (ss : List Step) → of (steps_of report.journal) lane line ≡ ss → AllByRecursion (λ s. P s.entry) ss → P d.settle_entry
 settle_has report lane line bytes id packet d P ss steps all =
     entry_has P empty_table report.journal lane line d.settle d.settle_entry (subst (λ (l : List Step). AllByRecursion (λ s. P s.entry) l) (sym steps) all) d.settled.at (here lane line d.settle_entry.place d.settled.place)
 
 -- What a line holds is what its look-up held, and so it opens to the packet.
-record SameHold (report : Report) (h : HoldView) (m : Material) (bytes : List ℕ) (id : PeerId) (packet : List ℕ) : Type 0 where
-  peer : ℕ
-  peer_is : peer ≡ h.peer
-  id_is : h.id ≡ id
-  opens : opened m.decrypt bytes ≡ Some packet
-
 same_hold : (report : Report) (lane line : ℕ) (bytes : List ℕ) (id : PeerId) (packet : List ℕ) (d : Delivers report lane line bytes id packet) (at : ℕ) (x : Act) (h : HoldView) (m : Material) (us : List Step) (os : List Owed)
     → key_of report.journal h.key ≡ Some m → AllByRecursion (λ s. Holds h s.entry) us
     → of (steps_of report.journal) lane line ≡ step_of (record { lane = lane; line = line }) at x (reply.Hold h) [] ∷ (us ++ releases (record { lane = lane; line = line }) at os)
@@ -291,8 +336,8 @@ same_hold report lane line bytes id packet d at x h m us os material_is uses ste
     let place : Place = record { lane = lane; line = line } in
     let gives : AllByRecursion (λ s. Holds h s.entry) (releases place at os) = all_released (Holds h) place at (release_holds h place at) os in
     let look : Holds h (step_of place at x (reply.Hold h) []).entry = λ k is. cc in
-    let held : Holds h d.look_entry = look_has report lane line bytes id packet d (Holds h) _ steps (look, all_append (λ s. Holds h s.entry) us (releases place at os) uses gives) in
-    let same : d.hold ≡ h = held d.hold d.held in
+    let held : Holds h d.held.entry = look_has report lane line bytes id packet d (Holds h) _ steps (look, all_append (λ s. Holds h s.entry) us (releases place at os) uses gives) in
+    let same : d.hold ≡ h = held d.hold d.held.held in
     let materials : Some m ≡ Some d.material = sym material_is ∙ ap (λ (w : HoldView). key_of report.journal w.key) (sym same) ∙ d.material_is in
     let material : m ≡ d.material = cc in
     (same, ap (λ (w : Material). opened w.decrypt bytes) material ∙ d.opens)
@@ -304,34 +349,31 @@ not_accepted refusal.Old = λ e. cc
 not_accepted refusal.Below = λ e. cc
 not_accepted refusal.Again = λ e. cc
 
-showing_row : (report : Report) (lane line : ℕ) (from : Transport) (bytes : List ℕ) (id : PeerId) (packet : List ℕ) (d : Delivers report lane line bytes id packet) → IsRun report.journal → (own at : ℕ) (row : Row)
-    → let its : Line = record { lane = own; at = at; deed = deed.Rx from bytes } in
-    RowFits (key_of report.journal) (λ b. b) its row → of (steps_of report.journal) lane line ≡ row_steps (λ b. b) (record { lane = lane; line = line }) its row → shown_in report.shards lane line ≡ row_judgements (record { lane = lane; line = line }) its row → row_answer its row ≡ answer.Delivered id packet
-showing_row report lane line from bytes id packet d run own at (AtOnce x) fits steps judgements = absurd (look_has report lane line bytes id packet d (λ e. ⊥) [] steps tt)
-showing_row report lane line from bytes id packet d run own at (Commanded c r taken os) fits steps judgements = absurd (no_command from (head_of bytes) c fits.0)
-showing_row report lane line from bytes id packet d run own at (Missed x r cause) fits steps judgements =
-    let its : d.look_entry.reply ≡ r = look_has report lane line bytes id packet d (λ e. e.reply ≡ r) _ steps (refl, tt) in
-    absurd (subst (λ (w : Reply). IsMiss w cause) (sym its ∙ d.held) fits.2)
-showing_row report lane line from bytes id packet d run own at (Held x h m (used.Sealed n) key peer) fits steps judgements = absurd fits.2
-showing_row report lane line from bytes id packet d run own at (Held x h m (used.Spent killed) key peer) fits steps judgements = absurd fits.2
-showing_row report lane line from bytes id packet d run own at (Held x h m used.BadTag key peer) fits steps judgements =
-    let both = same_hold report lane line bytes id packet d at x h m [] (hold_owed h key peer) fits.1 tt steps in
-    absurd (let bad : ◌≡◌ {A = Option (List ℕ)} None (Some packet) = sym fits.2 ∙ both.1 in cc)
-showing_row report lane line from bytes id packet d run own at (Held x h m (used.Refused v) key peer) fits steps judgements =
+-- A round that shows the parts is answered so.
+showing_round : (report : Report) (lane line : ℕ) (from : Transport) (bytes : List ℕ) (id : PeerId) (packet : List ℕ) (d : Delivers report lane line bytes id packet) → IsRun report.journal → (at : ℕ) (x : Act) (h : HoldView) (m : Material) (u : Use) (os : List Owed)
+    → let place : Place = record { lane = lane; line = line } in
+    let row : Columns = use_row (λ b. b) place at (deed.Rx from bytes) h m u in
+    begins_rx from (head_of bytes) ≡ first x → key_of report.journal h.key ≡ Some m → UseFits (deed.Rx from bytes) m u → of (steps_of report.journal) lane line ≡ step_of place at x (reply.Hold h) [] ∷ (row.steps ++ releases place at os) → shown_in report.shards lane line ≡ row.judgements → row.answer ≡ answer.Delivered id packet
+showing_round report lane line from bytes id packet d run at x h m (used.Sealed n) os begins has fits steps judgements = absurd fits
+showing_round report lane line from bytes id packet d run at x h m (used.Spent killed) os begins has fits steps judgements = absurd fits
+showing_round report lane line from bytes id packet d run at x h m used.BadTag os begins has fits steps judgements =
+    let both = same_hold report lane line bytes id packet d at x h m [] os has tt steps in
+    absurd (let bad : ◌≡◌ {A = Option (List ℕ)} None (Some packet) = sym fits ∙ both.1 in cc)
+showing_round report lane line from bytes id packet d run at x h m (used.Refused v) os begins has fits steps judgements =
     let P : Judgement → Type 0 = λ j. j.verdict ≡ refused_as v in
     let verdict : d.replay.verdict ≡ refused_as v = judged_has P report.shards lane line d.shard d.place d.replay (subst (λ (js : List Judgement). AllByRecursion P js) (sym judgements) (refl, tt)) d.judged (here lane line d.replay.place d.judged_by) in
     absurd (not_accepted v (sym verdict ∙ d.fresh))
-showing_row report lane line from bytes id packet d run own at (Held x h m (used.Settled s) key peer) fits steps judgements =
+showing_round report lane line from bytes id packet d run at x h m (used.Settled s) os begins has fits steps judgements =
     let place : Place = record { lane = lane; line = line } in
     let via : Addr → Addr = λ b. b in
     let inner : List ℕ = packet_in (deed.Rx from bytes) m in
     let settles : Step = step_of place at (settle_act via h inner bytes) (reply.Settled s) [] in
     let no_hold : Holds h settles.entry = λ k is. cc in
-    let both = same_hold report lane line bytes id packet d at x h m (settles ∷ []) (hold_owed h key peer) fits.1 (no_hold, tt) steps in
+    let both = same_hold report lane line bytes id packet d at x h m (settles ∷ []) os has (no_hold, tt) steps in
     let inner_is : inner ≡ packet = ap (λ o. unwrap_or o []) both.1 in
-    let P : Entry → Type 0 = Settles (settle_act via h inner bytes) s in
-    let look : P (step_of place at x (reply.Hold h) []).entry = λ i. absurd (rx_begins from (head_of bytes) x fits.0 i) in
-    let its = settle_has report lane line bytes id packet d P _ steps (look, ((λ _. (refl, refl)), all_released P place at (release_settles (settle_act via h inner bytes) s place at) (hold_owed h key peer))) d.is_settle in
+    let P : Entry → Type 0 = Settles d.hold.peer (settle_act via h inner bytes) s in
+    let look : P (step_of place at x (reply.Hold h) []).entry = λ i. absurd (rx_begins d.hold.peer from (head_of bytes) x begins i) in
+    let its = settle_has report lane line bytes id packet d P _ steps (look, ((λ _. (refl, refl)), all_released P place at (release_settles d.hold.peer (settle_act via h inner bytes) s place at) os)) d.settles in
     let before : Table = table_before report.journal d.settle in
     let deliver : settled_as h.peer (kind_via via (kind_of inner)) before.live ≡ settled.Deliver = owner_delivers h.peer (kind_of inner) before.live d.source d.owner (ap kind_of inner_is ∙ d.source_is) d.owner_is (d.owns ∙ ap (λ (w : HoldView). w.peer) both.0) in
     let same : settled_as h.peer (kind_via via (kind_of inner)) before.live ≡ s = settled_so report.journal run d.settle d.settle_entry h inner bytes s d.settled.at its.0 its.1 in
@@ -339,31 +381,70 @@ showing_row report lane line from bytes id packet d run own at (Held x h m (used
     let id_is : h.id ≡ id = ap (λ (w : HoldView). w.id) (sym both.0) ∙ d.id_is in
     rw (settled_is, inner_is, id_is) refl
 
+showing : (report : Report) (lane line : ℕ) (from : Transport) (bytes : List ℕ) (id : PeerId) (packet : List ℕ) (d : Delivers report lane line bytes id packet) → IsRun report.journal → (own at : ℕ) (a : Answer)
+    → Path (key_of report.journal) (λ b. b) (record { lane = lane; line = line }) (record { lane = own; at = at; deed = deed.Rx from bytes }) (of (steps_of report.journal) lane line) (shown_in report.shards lane line) a → a ≡ answer.Delivered id packet
+showing report lane line from bytes id packet d run own at a (by_at_once r) = absurd (look_has report lane line bytes id packet d (λ e. ⊥) [] r.steps_are tt)
+showing report lane line from bytes id packet d run own at a (by_command r) = absurd (no_command from (head_of bytes) r.command r.begins_so)
+showing report lane line from bytes id packet d run own at a (by_miss r) =
+    let its : d.held.entry.reply ≡ r.r = look_has report lane line bytes id packet d (λ e. e.reply ≡ r.r) _ r.steps_are (refl, tt) in
+    absurd (subst (λ (w : Reply). IsMiss w r.cause) (sym its ∙ d.held.held) r.misses)
+showing report lane line from bytes id packet d run own at a (by_round r) =
+    r.answer_is ∙ showing_round report lane line from bytes id packet d run at r.round.look r.round.hold r.round.material r.round.made (hold_owed r.round.hold r.round.key r.round.peer) r.begins_so r.fits.0 r.fits.1 r.steps_are r.judgements_are
+
 pub showing_delivers : (script : Script) (start : ℕ) (report : Report) → Legal script start report → (lane line : ℕ) (from : Transport) (bytes : List ℕ) (a : Answer) → Receives report lane line from bytes → answer_at report.lanes lane line ≡ Some a → (id : PeerId) (packet : List ℕ) → Delivers report lane line bytes id packet → a ≡ answer.Delivered id packet
 showing_delivers script start report legal lane line from bytes a receives at id packet d =
+    let path : LinePath report lane line a = line_path script start report legal lane line a at in
+    let P : Deed → Type 0 = λ d. Path (key_of report.journal) (λ b. b) (record { lane = lane; line = line }) (record { lane = path.its.lane; at = path.its.at; deed = d }) (of (steps_of report.journal) lane line) (shown_in report.shards lane line) a in
+    showing report lane line from bytes id packet d legal.journal.runs path.its.lane path.its.at a (subst P (path_deed report lane line a path (deed.Rx from bytes) receives) path.path)
+
+-- ---- at most once under a key
+
+-- What a delivered line holds is what any of its look-ups held.
+delivered_holds : (report : Report) (lane line : ℕ) (id : PeerId) (packet : List ℕ) (l : DeliveredLine report lane line id packet) (k : HoldView) → LooksUp report lane line k → k ≡ l.row.h
+delivered_holds report lane line id packet l k looks =
+    let row = l.row in
     let place : Place = record { lane = lane; line = line } in
-    let via : Addr → Addr = λ b. b in
-    let path : LinePath report lane line from bytes a = line_path script start report legal lane line from bytes a receives at in
-    let its : Line = record { lane = path.its.lane; at = path.its.at; deed = deed.Rx from bytes } in
-    let with_deed : Deed → Line = λ d. record { lane = path.its.lane; at = path.its.at; deed = d } in
-    let fits : RowFits (key_of report.journal) via its path.row = subst (λ (d : Deed). RowFits (key_of report.journal) via (with_deed d) path.row) path.deed_is path.fits in
-    let steps : of (steps_of report.journal) lane line ≡ row_steps via place its path.row = path.steps_are ∙ ap (λ (d : Deed). row_steps via place (with_deed d) path.row) path.deed_is in
-    let judgements : shown_in report.shards lane line ≡ row_judgements place its path.row = path.judgements_are ∙ ap (λ (d : Deed). row_judgements place (with_deed d) path.row) path.deed_is in
-    let answered : row_answer path.its path.row ≡ row_answer its path.row = ap (λ (d : Deed). row_answer (with_deed d) path.row) path.deed_is in
-    path.answer_is ∙ answered ∙ showing_row report lane line from bytes id packet d legal.journal.runs path.its.lane path.its.at path.row fits steps judgements
+    let at : ℕ = l.path.its.at in
+    let P : Entry → Type 0 = Holds row.h in
+    let look : P (step_of place at row.x (reply.Hold row.h) []).entry = λ k is. cc in
+    let settles : P (step_of place at (settle_act (λ b. b) row.h packet row.bytes) (reply.Settled settled.Deliver) []).entry = λ k is. cc in
+    let gives : AllByRecursion (λ s. P s.entry) (releases place at row.os) = all_released P place at (release_holds row.h place at) row.os in
+    entry_has P empty_table report.journal lane line looks.n looks.entry (subst (λ (ss : List Step). AllByRecursion (λ s. P s.entry) ss) (sym row.steps) (look, (settles, gives))) looks.made.at (here lane line looks.entry.place looks.made.place) k looks.held
 
--- ---- only what was received is delivered
+-- The accepted replay step of a line that delivered under a key.
+record AcceptedUnder (report : Report) (lane line key packet_id : ℕ) : Type 0 where
+  shard : ℕ
+  i : ℕ
+  r : ReplayEntry
+  at : judged_at report.shards shard i ≡ Some r
+  place : r.place ≡ record { lane = lane; line = line }
+  key_is : r.key ≡ key
+  id_is : r.id ≡ packet_id
+  accepted : r.verdict ≡ Accept
 
-settled_deed : (report : Report) (lane line : ℕ) (log : LaneLog) (its : Line) → slice_get report.lanes lane ≡ Some log → slice_get log.lines line ≡ Some its → (d : Deed) → its.deed ≡ d → (m : Material) → UseFits d m (used.Settled settled.Deliver) → IsReceived report lane line
-settled_deed report lane line log its log_is its_is (deed.Netlink n) is m fits = absurd fits
-settled_deed report lane line log its log_is its_is (deed.Tx packet) is m fits = absurd fits
-settled_deed report lane line log its log_is its_is (deed.Rx from bytes) is m fits = record { from = from; bytes = bytes; receives = record { log = log; log_is = log_is; its = its; its_is = its_is; deed_is = is } }
+accepted_under : (script : Script) (start : ℕ) (report : Report) → Legal script start report → (key packet_id lane line : ℕ) → DeliveredUnder report lane line key packet_id → AcceptedUnder report lane line key packet_id
+accepted_under script start report legal key packet_id lane line d =
+    let l : DeliveredLine report lane line d.id d.packet = delivered_line script start report legal lane line d.id d.packet d.answered in
+    let judged = judged_found report.shards lane line 0 (replay_of (record { lane = lane; line = line }) l.path.its.at l.row.h l.row.bytes Accept) (ap (λ (js : List Judgement). slice_get js 0) l.row.judgements) in
+    let hold : d.hold ≡ l.row.h = delivered_holds report lane line d.id d.packet l d.hold d.held in
+    let bytes : l.row.bytes ≡ d.bytes = its_bytes report lane line d.id d.packet l d.from d.bytes d.receives in
+    record {
+      shard = judged.shard;
+      i = judged.i;
+      r = judged.r;
+      at = judged.at;
+      place = ap (λ (j : Judgement). j.place) judged.is;
+      key_is = ap (λ (j : Judgement). j.key) judged.is ∙ ap (λ (w : HoldView). w.key) (sym hold) ∙ d.key_is;
+      id_is = ap (λ (j : Judgement). j.id) judged.is ∙ ap packet_id_of bytes ∙ d.packet_id_is;
+      accepted = ap (λ (j : Judgement). j.verdict) judged.is;
+    }
 
-pub delivered_received : (script : Script) (start : ℕ) (report : Report) → Legal script start report → (lane line : ℕ) (id : PeerId) (packet : List ℕ) → answer_at report.lanes lane line ≡ Some (answer.Delivered id packet) → IsReceived report lane line
-delivered_received script start report legal lane line id packet at =
-    let x : InLane report.lanes lane line (answer.Delivered id packet) = in_lane report.lanes lane line (answer.Delivered id packet) at in
-    let meets : Meets (key_of report.journal) (λ b. b) (steps_of report.journal) report.shards lane x.log.lines x.log.answers line = (legal.lines.each lane x.log x.log_is).each line (slice_get_within x.log.answers line (answer.Delivered id packet) x.at) in
-    let answers : Some (answer.Delivered id packet) ≡ Some meets.answer = sym x.at ∙ meets.answer_is in
-    let same : answer.Delivered id packet ≡ meets.answer = cc in
-    let row : DeliveredRow (key_of report.journal) meets.line meets.path.row id packet = delivered_row (key_of report.journal) (λ b. b) meets.line id packet meets.path.row meets.path.fits (same ∙ meets.path.answer_is) in
-    settled_deed report lane line x.log meets.line x.log_is meets.line_is meets.line.deed refl row.m row.fits
+pub delivers_once : (script : Script) (start : ℕ) (report : Report) → Legal script start report → AcceptsOnce report.shards → DeliversOnce report
+delivers_once script start report legal accepts key packet_id lane line other later d e =
+    let a : AcceptedUnder report lane line key packet_id = accepted_under script start report legal key packet_id lane line d in
+    let b : AcceptedUnder report other later key packet_id = accepted_under script start report legal key packet_id other later e in
+    let same = accepts a.shard b.shard a.i b.i a.r b.r a.at b.at a.accepted b.accepted (a.key_is ∙ sym b.key_is) (a.id_is ∙ sym b.id_is) in
+    let found : Some a.r ≡ Some b.r = sym a.at ∙ ap (λ s. judged_at report.shards s a.i) same.0 ∙ ap (λ i. judged_at report.shards b.shard i) same.1 ∙ b.at in
+    let one : a.r ≡ b.r = cc in
+    let place : ◌≡◌ {A = Place} (record { lane = lane; line = line }) (record { lane = other; line = later }) = sym a.place ∙ ap (λ (r : ReplayEntry). r.place) one ∙ b.place in
+    (ap (λ (p : Place). p.lane) place, ap (λ (p : Place). p.line) place)

@@ -13,8 +13,9 @@ use Rattle.ov_model.specs.declared.answer.Answer.{Answer}
 use Rattle.ov_model.specs.declared.replay.ReplayEntry.{ReplayEntry}
 use Rattle.ov_model.specs.Events.{Step, Judgement, judgement_of, is_at, of, shown, shown_in}
 use Rattle.ov_model.specs.Tables.{Material}
-use Rattle.ov_model.specs.Path.{Path, Row, AtOnce, Commanded, Missed, Held, RowFits}
+use Rattle.ov_model.specs.Path.{Path, by_at_once, by_command, by_miss, by_round}
 use Rattle.ov_model.specs.Legal.{Meets, NeverFall, LaneMeets, LinesRise}
+use Rattle.ov_model.specs.Lanes.{LaneRuns}
 
 pub all_append : {X : Type 0} (P : X → Type 0) (xs ys : List X) → AllByRecursion P xs → AllByRecursion P ys → AllByRecursion P (xs ++ ys)
 all_append P [] ys a b = b
@@ -81,7 +82,7 @@ never_fall_more lane line (s ∷ ss) more falls within at = (
 )
 
 -- More steps of the line under way.
-pub own_steps : {m : ℕ → Option Material} {via : Addr → Addr} (ss more : List Step) (shards : List (List ReplayEntry)) (lane : ℕ) (lines : List Line) (answers : List Answer) (now : List Step) (judged : List Judgement) → LaneMeets m via ss shards lane lines answers now judged → AllByRecursion (AtPlace lane (length answers)) more → LaneMeets m via (ss ++ more) shards lane lines answers (now ++ more) judged
+pub own_steps : {m : ℕ → Option Material} {via : Addr → Addr} (ss more : List Step) (shards : List (List ReplayEntry)) (lane : ℕ) (lines : List Line) (answers : List Answer) (now : List Step) (judged : List Judgement) → LaneRuns m via ss shards lane lines answers now judged → AllByRecursion (AtPlace lane (length answers)) more → LaneRuns m via (ss ++ more) shards lane lines answers (now ++ more) judged
 own_steps {m} {via} ss more shards lane lines answers now judged meets at = record {
   within = all_append (λ s. s.entry.place.lane ≡ lane → s.entry.place.line ≤ length answers) ss more meets.within
       (all_weaker (AtPlace lane (length answers)) (λ s. s.entry.place.lane ≡ lane → s.entry.place.line ≤ length answers)
@@ -111,7 +112,7 @@ split_below : (i n : ℕ) → i < n + 1 → (i < n) ⊎ (i ≡ n)
 split_below i n below = elim (cases_lt i n) [ inl before ↦ inl before | inr not_before ↦ inr (omega arith) ]
 
 -- The line under way is answered, and its steps have a path.
-pub line_done : {m : ℕ → Option Material} {via : Addr → Addr} (ss : List Step) (shards : List (List ReplayEntry)) (lane : ℕ) (lines : List Line) (line : Line) (answers : List Answer) (a : Answer) (now : List Step) (judged : List Judgement) → LaneMeets m via ss shards lane lines answers now judged → slice_get lines (length answers) ≡ Some line → Path m via (record { lane = lane; line = length answers }) line now judged a → LaneMeets m via ss shards lane lines (answers ++ a ∷ []) [] []
+pub line_done : {m : ℕ → Option Material} {via : Addr → Addr} (ss : List Step) (shards : List (List ReplayEntry)) (lane : ℕ) (lines : List Line) (line : Line) (answers : List Answer) (a : Answer) (now : List Step) (judged : List Judgement) → LaneRuns m via ss shards lane lines answers now judged → slice_get lines (length answers) ≡ Some line → Path m via (record { lane = lane; line = length answers }) line now judged a → LaneRuns m via ss shards lane lines (answers ++ a ∷ []) [] []
 line_done {m} {via} ss shards lane lines line answers a now judged meets line_is path = let long : length (answers ++ a ∷ []) ≡ length answers + 1 = length-append answers (a ∷ []) in record {
   within = all_weaker (λ s. s.entry.place.lane ≡ lane → s.entry.place.line ≤ length answers) (λ s. s.entry.place.lane ≡ lane → s.entry.place.line ≤ length (answers ++ a ∷ []))
       (λ s w own. let old : s.entry.place.line ≤ length answers = w own in omega arith) ss meets.within;
@@ -141,22 +142,20 @@ line_done {m} {via} ss shards lane lines line answers a now judged meets line_is
 abbrev pub Knows : (old new : ℕ → Option Material) → Type 0
 Knows old new = (key : ℕ) (x : Material) → old key ≡ Some x → new key ≡ Some x
 
-fits_knows : (old new : ℕ → Option Material) (via : Addr → Addr) (line : Line) (row : Row) → Knows old new → RowFits old via line row → RowFits new via line row
-fits_knows old new via line (AtOnce a) knows fits = fits
-fits_knows old new via line (Commanded c r taken os) knows fits = fits
-fits_knows old new via line (Missed a r cause) knows fits = fits
-fits_knows old new via line (Held a h m u key peer) knows fits = (fits.0, knows h.key m fits.1, fits.2)
-
 pub path_knows : (old new : ℕ → Option Material) (via : Addr → Addr) (place : Place) (line : Line) (ss : List Step) (js : List Judgement) (a : Answer) → Knows old new → Path old via place line ss js a → Path new via place line ss js a
-path_knows old new via place line ss js a knows path = record {
-  row = path.row;
-  fits = fits_knows old new via line path.row knows path.fits;
-  steps_are = path.steps_are;
-  judgements_are = path.judgements_are;
-  answer_is = path.answer_is;
-}
+path_knows old new via place line ss js a knows (by_at_once r) = by_at_once r
+path_knows old new via place line ss js a knows (by_command r) = by_command r
+path_knows old new via place line ss js a knows (by_miss r) = by_miss r
+path_knows old new via place line ss js a knows (by_round r) = by_round (record {
+  round = r.round;
+  begins_so = r.begins_so;
+  fits = (knows r.round.hold.key r.round.material r.fits.0, r.fits.1);
+  steps_are = r.steps_are;
+  judgements_are = r.judgements_are;
+  answer_is = r.answer_is;
+})
 
-pub lane_knows : (old new : ℕ → Option Material) (via : Addr → Addr) (ss : List Step) (shards : List (List ReplayEntry)) (lane : ℕ) (lines : List Line) (answers : List Answer) (now : List Step) (judged : List Judgement) → Knows old new → LaneMeets old via ss shards lane lines answers now judged → LaneMeets new via ss shards lane lines answers now judged
+pub lane_knows : (old new : ℕ → Option Material) (via : Addr → Addr) (ss : List Step) (shards : List (List ReplayEntry)) (lane : ℕ) (lines : List Line) (answers : List Answer) (now : List Step) (judged : List Judgement) → Knows old new → LaneRuns old via ss shards lane lines answers now judged → LaneRuns new via ss shards lane lines answers now judged
 lane_knows old new via ss shards lane lines answers now judged knows meets = record {
   within = meets.within;
   judged_within = meets.judged_within;
@@ -212,7 +211,7 @@ all_judged P [] k r all one = tt
 all_judged P (rs ∷ shards) zero r all one = (all_append P rs (r ∷ []) all.0 (one, tt), all.1)
 all_judged P (rs ∷ shards) (suc k) r all one = (all.0, all_judged P shards k r all.1 one)
 
-pub own_judged : {m : ℕ → Option Material} {via : Addr → Addr} (ss : List Step) (shards : List (List ReplayEntry)) (k : ℕ) (r : ReplayEntry) (lane : ℕ) (lines : List Line) (answers : List Answer) (now : List Step) → LaneMeets m via ss shards lane lines answers now [] → k < length shards → r.place ≡ record { lane = lane; line = length answers } → LaneMeets m via ss (judged_in shards k r) lane lines answers now (judgement_of r ∷ [])
+pub own_judged : {m : ℕ → Option Material} {via : Addr → Addr} (ss : List Step) (shards : List (List ReplayEntry)) (k : ℕ) (r : ReplayEntry) (lane : ℕ) (lines : List Line) (answers : List Answer) (now : List Step) → LaneRuns m via ss shards lane lines answers now [] → k < length shards → r.place ≡ record { lane = lane; line = length answers } → LaneRuns m via ss (judged_in shards k r) lane lines answers now (judgement_of r ∷ [])
 own_judged {m} {via} ss shards k r lane lines answers now meets below at =
     let line : r.place.line ≡ length answers = ap (λ p. p.line) at in record {
       within = meets.within;
@@ -238,14 +237,37 @@ rise_more lane (s ∷ rs) r rises below = (
 not_at : (lane line : ℕ) (p : Place) → is_at lane line p ≡ false → p.lane ≡ lane → p.line ≤ line → p.line < line
 not_at lane line p other own within = grind (arith, nat_tests)
 
-shown_before : (lane line : ℕ) (rs : List ReplayEntry) → shown rs lane line ≡ [] → AllByRecursion (λ r. r.place.lane ≡ lane → r.place.line ≤ line) rs → AllByRecursion (λ r. r.place.lane ≡ lane → r.place.line < line) rs
-shown_before lane line [] none within = tt
-shown_before lane line (r ∷ rs) none within =
-    let P : Bool → Type 0 = λ b. map judgement_of (if b then r ∷ filter (λ s. is_at lane line s.place) rs else filter (λ s. is_at lane line s.place) rs) ≡ [] in
-    elim (is_at lane line r.place) as (λ b. is_at lane line r.place ≡ b → P b → AllByRecursion (λ s. s.place.lane ≡ lane → s.place.line < line) (r ∷ rs)) [
+-- What isn't of the line under way is of an earlier line, whichever kind of step it is.
+before : {X : Type 0} (place : X → Place) (lane line : ℕ) (xs : List X) → filter (λ x. is_at lane line (place x)) xs ≡ [] → AllByRecursion (λ x. (place x).lane ≡ lane → (place x).line ≤ line) xs → AllByRecursion (λ x. (place x).lane ≡ lane → (place x).line < line) xs
+before place lane line [] none within = tt
+before place lane line (x ∷ xs) none within =
+    let P : Bool → Type 0 = λ b. (if b then x ∷ filter (λ y. is_at lane line (place y)) xs else filter (λ y. is_at lane line (place y)) xs) ≡ [] in
+    elim (is_at lane line (place x)) as (λ b. is_at lane line (place x) ≡ b → P b → AllByRecursion (λ y. (place y).lane ≡ lane → (place y).line < line) (x ∷ xs)) [
       | true ↦ λ at no. absurd (cc)
-      | false ↦ λ at no. (λ own. not_at lane line r.place at own (within.0 own), shown_before lane line rs no within.1)
+      | false ↦ λ at no. (λ own. not_at lane line (place x) at own (within.0 own), before place lane line xs no within.1)
     ] refl none
+
+none_shown : (rs : List ReplayEntry) → map judgement_of rs ≡ [] → rs ≡ []
+none_shown [] none = refl
+none_shown (r ∷ rs) none = absurd (cc)
+
+shown_before : (lane line : ℕ) (rs : List ReplayEntry) → shown rs lane line ≡ [] → AllByRecursion (λ r. r.place.lane ≡ lane → r.place.line ≤ line) rs → AllByRecursion (λ r. r.place.lane ≡ lane → r.place.line < line) rs
+shown_before lane line rs none within = before (λ (r : ReplayEntry). r.place) lane line rs (none_shown (filter (λ r. is_at lane line r.place) rs) none) within
+
+shown_in_before : (lane line : ℕ) (shards : List (List ReplayEntry)) → shown_in shards lane line ≡ [] → AllByRecursion (AllByRecursion (λ r. r.place.lane ≡ lane → r.place.line ≤ line)) shards → AllByRecursion (AllByRecursion (λ r. r.place.lane ≡ lane → r.place.line < line)) shards
+shown_in_before lane line [] none within = tt
+shown_in_before lane line (rs ∷ shards) none within =
+    let empty = both_empty (shown rs lane line) (shown_in shards lane line) none in
+    (shown_before lane line rs empty.0 within.0, shown_in_before lane line shards empty.1 within.1)
+
+-- A lane with nothing under way is a lane that is done.
+pub lane_done : {m : ℕ → Option Material} {via : Addr → Addr} (ss : List Step) (shards : List (List ReplayEntry)) (lane : ℕ) (lines : List Line) (answers : List Answer) → LaneRuns m via ss shards lane lines answers [] [] → LaneMeets m via ss shards lane lines answers
+lane_done ss shards lane lines answers runs = record {
+  within = before (λ (s : Step). s.entry.place) lane (length answers) ss runs.under_way runs.within;
+  judged_within = shown_in_before lane (length answers) shards runs.judging runs.judged_within;
+  falls = runs.falls;
+  each = runs.each;
+}
 
 pub rise_judged : (shards : List (List ReplayEntry)) (k : ℕ) (r : ReplayEntry) (lane line : ℕ) → AllByRecursion (LinesRise lane) shards → AllByRecursion (AllByRecursion (λ s. s.place.lane ≡ lane → s.place.line ≤ line)) shards → shown_in shards lane line ≡ [] → r.place.line ≡ line → AllByRecursion (LinesRise lane) (judged_in shards k r)
 rise_judged [] k r lane line rises within none at = tt

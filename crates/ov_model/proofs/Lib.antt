@@ -16,3 +16,6 @@ pub mod SealedLaw
 pub mod Places
 pub mod DeliveryLaw
 pub mod LifetimeLaw
+pub mod Mine
+pub mod Picked
+pub mod Stands

@@ -1,12 +1,13 @@
 -- No nonce is used twice under the same bytes of a key, where no two keys seal with the same bytes and tail.
-use Rattle.std.proofs.Common.{ℕ, ◌≡◌, ◌≢◌, ◌+◌, ◌<◌, ◌≤◌, List, [], ◌∷◌, ◌++◌, length, refl, sym, ◌∙◌, subst, ap, Bool, true, false, arith, if◌then◌else◌, ◌==◌, ◌&&◌, nat_le, nat_lt, ◌⊎◌, inl, inr}
+use Rattle.std.proofs.Common.{ℕ, ◌≡◌, ◌≢◌, ◌+◌, ◌<◌, ◌≤◌, List, [], ◌∷◌, ◌++◌, length, refl, sym, ◌∙◌, subst, ap, true, false, arith, if◌then◌else◌, ◌==◌, ◌⊎◌, inl, inr}
 use Rattle.std.specs.Prelude.{Option, Some, None, map, slice_get}
 use Rattle.std.specs.Option.{option_or}
 use Rattle.std.specs.Str.{bytes_eq}
 use Rattle.std.specs.List.{AllByRecursion, IsDistinct}
-use Rattle.std.proofs.lemmas.Bool.{cases_eq, cases_lt, eq-eqb, ne_eqb, both_ways}
+use Rattle.std.proofs.lemmas.Bool.{cases_eq, eq-eqb, ne_eqb, both_ways}
 use Rattle.std.proofs.lemmas.Bool.Decides.{nat_tests}
 use Rattle.std.proofs.lemmas.Slice.Eq.{bytes_eq-Decides}
+use Rattle.ov_base.specs.Sums.{between}
 use Rattle.ov_aes.specs.Aes.{key_list}
 use Rattle.ov_model.specs.declared.command.Command.TheVariants as command
 use Rattle.ov_model.specs.declared.command.KeyConf.{KeyConf}
@@ -149,16 +150,11 @@ same_serial (e ∷ es) k l m n differ is_m is_n keys tails =
 
 -- ---- one id, one place
 
-one_at_most : (b : Bool) (n : ℕ) → n ≡ (if b then 1 else 0) → n ≤ 1
-one_at_most true n is = rw is (omega arith)
-one_at_most false n is = rw is (omega arith)
+one_at_most : (first end id n : ℕ) → n ≡ between first end id → n ≤ 1
+one_at_most first end id n is = grind (arith, nat_tests)
 
-within_range : (first count n id : ℕ) → n ≡ (if nat_le first id && nat_lt id (first + count) then 1 else 0) → 1 ≤ n → id < first + count
-within_range first count n id is some =
-    elim (cases_lt id (first + count)) [
-      | inl below ↦ below
-      | inr above ↦ absurd (let none : n ≡ 0 = grind (arith, nat_tests) in omega arith)
-    ]
+within_range : (first end id n : ℕ) → n ≡ between first end id → 1 ≤ n → id < end
+within_range first end id n is some = grind (arith, nat_tests)
 
 -- The lane's log with a sealed answer in it.
 pub record InLane (lanes : List LaneLog) (lane line : ℕ) (a : Answer) : Type 0 where
@@ -178,7 +174,7 @@ one_place : (first : ℕ) (report : Report) (lane other line later : ℕ) (a b :
 one_place first report lane other line later a b counts at_a at_b key id =
     let x : InLane report.lanes lane line (answer.Sealed a) = in_lane report.lanes lane line (answer.Sealed a) at_a in
     let y : InLane report.lanes other later (answer.Sealed b) = in_lane report.lanes other later (answer.Sealed b) at_b in
-    let most : times a.id (ids_in report.lanes a.key) ≤ 1 = one_at_most _ _ ((counts.each a.key).once a.id) in
+    let most : times a.id (ids_in report.lanes a.key) ≤ 1 = one_at_most first (first + length (ids_in report.lanes a.key)) a.id (times a.id (ids_in report.lanes a.key)) ((counts.each a.key).once a.id) in
     let mine : 1 ≤ times a.id (ids_of x.log.answers a.key) = stands_once a.id a.key x.log.answers line a x.at refl refl in
     let its : 1 ≤ times a.id (ids_of y.log.answers a.key) = stands_once a.id a.key y.log.answers later b y.at (sym key) (sym id) in
     elim (cases_order lane other) [
@@ -206,7 +202,7 @@ small_id first report lane line a counts at =
     let x : InLane report.lanes lane line (answer.Sealed a) = in_lane report.lanes lane line (answer.Sealed a) at in
     let mine : 1 ≤ times a.id (ids_of x.log.answers a.key) = stands_once a.id a.key x.log.answers line a x.at refl refl in
     let all : times a.id (ids_of x.log.answers a.key) ≤ times a.id (ids_in report.lanes a.key) = lane_counts a.id a.key report.lanes lane x.log x.log_is in
-    let below : a.id < first + length (ids_in report.lanes a.key) = within_range first (length (ids_in report.lanes a.key)) _ a.id ((counts.each a.key).once a.id) (omega arith) in
+    let below : a.id < first + length (ids_in report.lanes a.key) = within_range first (first + length (ids_in report.lanes a.key)) a.id (times a.id (ids_in report.lanes a.key)) ((counts.each a.key).once a.id) (omega arith) in
     let most : first + length (ids_in report.lanes a.key) < 4294967297 = (counts.each a.key).most in
     omega arith
 

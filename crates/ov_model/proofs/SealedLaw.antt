@@ -1,20 +1,23 @@
 -- Each sealed answer of a legal report was sealed with a key that the history installed.
-use Rattle.std.proofs.Common.{ℕ, ◌≡◌, List, refl, sym, ◌∙◌, subst}
-use Rattle.std.specs.Prelude.{⊤, Option, Some, None, Result, Ok, Err}
+use Rattle.std.proofs.Common.{ℕ, ◌≡◌, List, [], refl, sym, ◌∙◌, subst, ap}
+use Rattle.std.specs.Prelude.{⊤, Option, Some, None, Result, Ok, Err, slice_get}
 use Rattle.std.proofs.lemmas.Option.{slice_get_within}
 use Rattle.ov_base.specs.declared.address.Addr.{Addr}
 use Rattle.ov_base.specs.declared.address.Transport.{Transport}
-use Rattle.ov_aes.specs.Aes.{key_list}
 use Rattle.ov_model.specs.declared.ident.PeerId.{PeerId}
 use Rattle.ov_model.specs.declared.ident.KeyId.{KeyId}
+use Rattle.ov_model.specs.declared.place.Place.{Place}
 use Rattle.ov_model.specs.declared.command.Command.{Command}
+use Rattle.ov_model.specs.declared.act.Act.{Act}
 use Rattle.ov_model.specs.declared.reply.Errno.{Errno}
+use Rattle.ov_model.specs.declared.reply.HoldView.{HoldView}
 use Rattle.ov_model.specs.declared.reply.Reply.TheVariants as reply
 use Rattle.ov_model.specs.declared.reply.Settled.TheVariants as settled
 use Rattle.ov_model.specs.declared.answer.Answer.{Answer}
 use Rattle.ov_model.specs.declared.answer.Answer.TheVariants as answer
 use Rattle.ov_model.specs.declared.answer.DropCause.TheVariants as drop
 use Rattle.ov_model.specs.declared.answer.SealedOut.{SealedOut}
+use Rattle.ov_model.specs.declared.stand.Use.{Use}
 use Rattle.ov_model.specs.declared.stand.Use.TheVariants as used
 use Rattle.ov_model.specs.declared.line.Line.{Line}
 use Rattle.ov_model.specs.declared.line.Deed.{Deed}
@@ -22,14 +25,15 @@ use Rattle.ov_model.specs.declared.line.Deed.TheVariants as deed
 use Rattle.ov_model.specs.declared.line.Script.{Script}
 use Rattle.ov_model.specs.declared.report.Report.{Report}
 use Rattle.ov_model.specs.Ident.{peer_id, key_id}
-use Rattle.ov_model.specs.Tables.{Material}
+use Rattle.ov_model.specs.Tables.{Material, empty_table}
 use Rattle.ov_model.specs.Checked.{checked}
-use Rattle.ov_model.specs.Events.{steps_of}
-use Rattle.ov_model.specs.Packets.{HeadKind, short, data_v1, control, data_v2, head_of, Inner, v4, v6, not_ip, inner_of, datagram}
-use Rattle.ov_model.specs.Path.{at_once, begins_netlink, begins_tx, rx_look_by, begins_rx, begins, packet_in, Row, AtOnce, Commanded, Missed, Held, RowFits, row_answer}
+use Rattle.ov_model.specs.Events.{Step, Judgement, of, shown_in, steps_of, step_of}
+use Rattle.ov_model.specs.Packets.{HeadKind, short, data_v1, control, data_v2, head_of, Inner, v4, v6, not_ip, inner_of}
+use Rattle.ov_model.specs.Path.{at_once, begins_netlink, begins_tx, rx_look_by, begins_rx, begins, UseFits, sealed_datagram, use_row, Path, by_at_once, by_command, by_miss, by_round}
 use Rattle.ov_model.specs.Keys.{key_of}
 use Rattle.ov_model.specs.Legal.{Meets, Legal}
 use Rattle.ov_model.specs.Laws.{IsSealed, SealedUnder}
+use Rattle.ov_model.proofs.Places.{step_entry}
 use Rattle.ov_model.proofs.NonceLaw.{InLane, in_lane}
 
 -- ---- what is answered at once is neither sealed nor delivered
@@ -68,35 +72,70 @@ at_once_not_made via (deed.Rx from bytes) a is made = rx_not_made from (head_of 
 
 -- ---- the row of a sealed answer
 
--- The same over any material.
-record Under (material : ℕ → Option Material) (s : SealedOut) : Type 0 where
-  m : Material
-  m_is : material s.key ≡ Some m
-  id : ℕ
-  key_id : ℕ
+-- What is sealed is the packet of a line that sends.
+record Seals (d : Deed) (h : HoldView) (m : Material) (s : SealedOut) : Type 0 where
   packet : List ℕ
-  datagram_is : s.datagram ≡ datagram id key_id s.id (key_list m.encrypt.key) m.encrypt.tail packet
+  sends : d ≡ deed.Tx packet
+  sealed : s ≡ record { to = h.to; key = h.key; id = s.id; datagram = sealed_datagram h m s.id packet }
 
-sealed_row : (material : ℕ → Option Material) (via : Addr → Addr) (line : Line) (s : SealedOut) (row : Row) → RowFits material via line row → answer.Sealed s ≡ row_answer line row → Under material s
-sealed_row material via line s (AtOnce a) fits is = absurd (at_once_not_made via line.deed a fits (subst IsMade is tt))
-sealed_row material via line s (Commanded c r taken os) fits is = cc
-sealed_row material via line s (Missed a r cause) fits is = cc
-sealed_row material via line s (Held a h m (used.Sealed n) key peer) fits is =
-    let its : s ≡ record { to = h.to; key = h.key; id = n; datagram = datagram h.id.number h.key_id.number n (key_list m.encrypt.key) m.encrypt.tail (packet_in line.deed m) } = cc in
-    subst (Under material) (sym its) (record { m = m; m_is = fits.1; id = h.id.number; key_id = h.key_id.number; packet = packet_in line.deed m; datagram_is = refl })
-sealed_row material via line s (Held a h m (used.Spent killed) key peer) fits is = cc
-sealed_row material via line s (Held a h m used.BadTag key peer) fits is = cc
-sealed_row material via line s (Held a h m (used.Refused v) key peer) fits is = cc
-sealed_row material via line s (Held a h m (used.Settled settled.Deliver) key peer) fits is = cc
-sealed_row material via line s (Held a h m (used.Settled settled.Ping) key peer) fits is = cc
-sealed_row material via line s (Held a h m (used.Settled settled.NotIp) key peer) fits is = cc
-sealed_row material via line s (Held a h m (used.Settled settled.NotOwner) key peer) fits is = cc
+seals : (via : Addr → Addr) (place : Place) (at : ℕ) (d : Deed) (h : HoldView) (m : Material) (u : Use) (s : SealedOut) → UseFits d m u → answer.Sealed s ≡ (use_row via place at d h m u).answer → Seals d h m s
+seals via place at (deed.Netlink n) h m u s fits is = absurd fits
+seals via place at (deed.Tx packet) h m (used.Sealed n) s fits is =
+    let its : s ≡ record { to = h.to; key = h.key; id = n; datagram = sealed_datagram h m n packet } = cc in
+    subst (Seals (deed.Tx packet) h m) (sym its) (record { packet = packet; sends = refl; sealed = refl })
+seals via place at (deed.Tx packet) h m (used.Spent killed) s fits is = cc
+seals via place at (deed.Tx packet) h m used.BadTag s fits is = absurd fits
+seals via place at (deed.Tx packet) h m (used.Refused x) s fits is = absurd fits
+seals via place at (deed.Tx packet) h m (used.Settled x) s fits is = absurd fits
+seals via place at (deed.Rx from bytes) h m (used.Sealed n) s fits is = absurd fits
+seals via place at (deed.Rx from bytes) h m (used.Spent killed) s fits is = absurd fits
+seals via place at (deed.Rx from bytes) h m used.BadTag s fits is = cc
+seals via place at (deed.Rx from bytes) h m (used.Refused x) s fits is = cc
+seals via place at (deed.Rx from bytes) h m (used.Settled settled.Deliver) s fits is = cc
+seals via place at (deed.Rx from bytes) h m (used.Settled settled.Ping) s fits is = cc
+seals via place at (deed.Rx from bytes) h m (used.Settled settled.NotIp) s fits is = cc
+seals via place at (deed.Rx from bytes) h m (used.Settled settled.NotOwner) s fits is = cc
 
-pub sealed_under : (script : Script) (first : ℕ) (report : Report) → Legal script first report → (lane line : ℕ) (s : SealedOut) → IsSealed report lane line s → SealedUnder report s
+-- A sealed answer stands in the row of a round.
+record SealedRow (material : ℕ → Option Material) (place : Place) (line : Line) (ss : List Step) (s : SealedOut) : Type 0 where
+  look : Act
+  h : HoldView
+  m : Material
+  m_is : material h.key ≡ Some m
+  seals : Seals line.deed h m s
+  looked : slice_get ss 0 ≡ Some (step_of place line.at look (reply.Hold h) [])
+
+sealed_row : (material : ℕ → Option Material) (via : Addr → Addr) (place : Place) (line : Line) (ss : List Step) (js : List Judgement) (s : SealedOut) → Path material via place line ss js (answer.Sealed s) → SealedRow material place line ss s
+sealed_row material via place line ss js s (by_at_once r) = absurd (at_once_not_made via line.deed (answer.Sealed s) r.begins_so tt)
+sealed_row material via place line ss js s (by_command r) = let is = r.answer_is in cc
+sealed_row material via place line ss js s (by_miss r) = let is = r.answer_is in cc
+sealed_row material via place line ss js s (by_round r) = record {
+  look = r.round.look;
+  h = r.round.hold;
+  m = r.round.material;
+  m_is = r.fits.0;
+  seals = seals via place line.at line.deed r.round.hold r.round.material r.round.made s r.fits.1 r.answer_is;
+  looked = ap (λ (l : List Step). slice_get l 0) r.steps_are;
+}
+
+pub sealed_under : (script : Script) (first : ℕ) (report : Report) → Legal script first report → (lane line : ℕ) (s : SealedOut) → IsSealed report lane line s → SealedUnder report lane line s
 sealed_under script first report legal lane line s at =
+    let place : Place = record { lane = lane; line = line } in
     let x : InLane report.lanes lane line (answer.Sealed s) = in_lane report.lanes lane line (answer.Sealed s) at in
     let meets : Meets (key_of report.journal) (λ a. a) (steps_of report.journal) report.shards lane x.log.lines x.log.answers line = (legal.lines.each lane x.log x.log_is).each line (slice_get_within x.log.answers line (answer.Sealed s) x.at) in
-    let its : Some (answer.Sealed s) ≡ Some meets.answer = sym x.at ∙ meets.answer_is in
-    let same : answer.Sealed s ≡ meets.answer = cc in
-    let under : Under (key_of report.journal) s = sealed_row (key_of report.journal) (λ a. a) meets.line s meets.path.row meets.path.fits (same ∙ meets.path.answer_is) in
-    record { material = under.m; material_is = under.m_is; id = under.id; key_id = under.key_id; packet = under.packet; datagram_is = under.datagram_is }
+    let its : Some meets.answer ≡ Some (answer.Sealed s) = sym meets.answer_is ∙ x.at in
+    let same : meets.answer ≡ answer.Sealed s = cc in
+    let P : Answer → Type 0 = Path (key_of report.journal) (λ a. a) place meets.line (of (steps_of report.journal) lane line) (shown_in report.shards lane line) in
+    let row : SealedRow (key_of report.journal) place meets.line (of (steps_of report.journal) lane line) s = sealed_row (key_of report.journal) (λ a. a) place meets.line _ _ s (subst P same meets.path) in
+    let found = step_entry empty_table report.journal lane line 0 (step_of place meets.line.at row.look (reply.Hold row.h) []) row.looked in
+    record {
+      packet = row.seals.packet;
+      sends = record { log = x.log; log_is = x.log_is; its = meets.line; its_is = meets.line_is; deed_is = row.seals.sends };
+      hold = row.h;
+      held = record { n = found.n; entry = (step_of place meets.line.at row.look (reply.Hold row.h) []).entry; made = record { at = found.at; place = refl }; held = refl };
+      key_is = ap (λ (o : SealedOut). o.key) row.seals.sealed;
+      to_is = ap (λ (o : SealedOut). o.to) row.seals.sealed;
+      material = row.m;
+      material_is = row.m_is;
+      datagram_is = ap (λ (o : SealedOut). o.datagram) row.seals.sealed;
+    }

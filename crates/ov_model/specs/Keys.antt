@@ -1,8 +1,9 @@
 -- The keys that a run installed, and the packet ids that it sealed under each.
-use Rattle.std.specs.Prelude.{ℕ, ◌+◌, ◌≡◌, ◌<◌, List, [], ◌∷◌, ◌++◌, length, map, filter, Bool, true, false, Option, Some, None, if◌then◌else◌, ◌==◌, ◌&&◌, nat_le, nat_lt, slice_get}
+use Rattle.std.specs.Prelude.{ℕ, ◌+◌, ◌≡◌, ◌<◌, List, [], ◌∷◌, ◌++◌, length, map, filter, Bool, true, false, Option, Some, None, if◌then◌else◌, ◌==◌, ◌&&◌, slice_get}
 use Rattle.std.specs.Option.{option_or}
 use Rattle.std.specs.Str.{bytes_eq}
-use Rattle.std.specs.List.{IsDistinct, list_any, AllByRecursion}
+use Rattle.std.specs.List.{IsDistinct, list_any, AllPairs}
+use Rattle.ov_base.specs.Sums.{between}
 use Rattle.ov_aes.specs.Aes.{key_list}
 use Rattle.ov_model.specs.declared.command.KeyDir.{KeyDir}
 use Rattle.ov_model.specs.declared.command.KeyConf.{KeyConf}
@@ -72,11 +73,6 @@ abbrev pub ids_in : List LaneLog → ℕ → List ℕ
 ids_in [] key = []
 ids_in (log ∷ logs) key = ids_of log.answers key ++ ids_in logs key
 
--- A list of numbers rises.
-abbrev pub Rises : List ℕ → Type 0
-Rises [] = Unit {0}
-Rises (n ∷ ns) = AllByRecursion (λ m. n < m) ns × Rises ns
-
 -- Whether an entry says that a key is spent.
 abbrev pub spends_key : ℕ → Act → Bool
 spends_key key (act.Spend peer spent) = spent == key
@@ -88,11 +84,11 @@ spends key e = spends_key key e.call.act
 -- The ids of one key are the numbers from the first on, each once and none left out; none is above
 -- 4294967295, and a key that was spent gave that one.
 pub record KeyCounts (first : ℕ) (report : Report) (key : ℕ) : Type 0 where
-  pub once : (n : ℕ) → times n (ids_in report.lanes key) ≡ (if nat_le first n && nat_lt n (first + length (ids_in report.lanes key)) then 1 else 0)
+  pub once : (n : ℕ) → times n (ids_in report.lanes key) ≡ between first (first + length (ids_in report.lanes key)) n
   pub most : first + length (ids_in report.lanes key) < 4294967297
   pub spent : list_any (spends key) report.journal ≡ true → first + length (ids_in report.lanes key) ≡ 4294967296
 
 -- Packet ids: of each key over all lanes, and in each lane they rise.
 pub record IdsCount (first : ℕ) (report : Report) : Type 0 where
   pub each : (key : ℕ) → KeyCounts first report key
-  pub rise : (lane : ℕ) (log : LaneLog) (key : ℕ) → slice_get report.lanes lane ≡ Some log → Rises (ids_of log.answers key)
+  pub rise : (lane : ℕ) (log : LaneLog) (key : ℕ) → slice_get report.lanes lane ≡ Some log → AllPairs (λ m n. m < n) (ids_of log.answers key)

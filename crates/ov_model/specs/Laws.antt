@@ -2,16 +2,58 @@
 use Rattle.std.specs.Prelude.{ℕ, ◌≡◌, List, Option, Some, slice_get}
 use Rattle.std.specs.Option.{option_and_then}
 use Rattle.ov_aes.specs.Aes.{key_list}
+use Rattle.ov_base.specs.declared.address.Transport.{Transport}
 use Rattle.ov_model.specs.declared.answer.Answer.{Answer}
 use Rattle.ov_model.specs.declared.answer.Answer.TheVariants as answer
 use Rattle.ov_model.specs.declared.answer.SealedOut.{SealedOut}
+use Rattle.ov_model.specs.declared.entry.Entry.{Entry}
+use Rattle.ov_model.specs.declared.line.Line.{Line}
+use Rattle.ov_model.specs.declared.line.Script.{Script}
+use Rattle.ov_model.specs.declared.line.Deed.{Deed}
+use Rattle.ov_model.specs.declared.line.Deed.TheVariants as deed
+use Rattle.ov_model.specs.declared.reply.HoldView.{HoldView}
+use Rattle.ov_model.specs.declared.reply.Reply.TheVariants as reply
 use Rattle.ov_model.specs.declared.replay.ReplayEntry.{ReplayEntry}
 use Rattle.ov_model.specs.declared.replay.Verdict.TheVariants.{Accept}
 use Rattle.ov_model.specs.declared.report.LaneLog.{LaneLog}
 use Rattle.ov_model.specs.declared.report.Report.{Report}
 use Rattle.ov_model.specs.Tables.{Material}
 use Rattle.ov_model.specs.Keys.{key_of}
+use Rattle.ov_model.specs.Legal.{Legal}
 use Rattle.ov_model.specs.Packets.{datagram, nonce_of}
+
+-- What holds of every legal report, whatever its script and the first packet id of the keys.
+abbrev pub OfEveryLegal : (Report → Type 0) → Type 0
+OfEveryLegal P = (script : Script) (first : ℕ) (report : Report) → Legal script first report → P report
+
+-- ---- a line of a report
+
+-- What a line of a lane had to do.
+pub record HasDeed (report : Report) (lane line : ℕ) (what : Deed) : Type 0 where
+  pub log : LaneLog
+  pub log_is : slice_get report.lanes lane ≡ Some log
+  pub its : Line
+  pub its_is : slice_get log.lines line ≡ Some its
+  pub deed_is : its.deed ≡ what
+
+-- It sent an inner packet, or it received a datagram.
+abbrev pub Sends : Report → (lane line : ℕ) → List ℕ → Type 0
+Sends report lane line packet = HasDeed report lane line (deed.Tx packet)
+
+abbrev pub Receives : Report → (lane line : ℕ) → Transport → List ℕ → Type 0
+Receives report lane line from bytes = HasDeed report lane line (deed.Rx from bytes)
+
+-- An entry of the history was made by a line.
+pub record IsEntryOf (report : Report) (lane line n : ℕ) (e : Entry) : Type 0 where
+  pub at : slice_get report.journal n ≡ Some e
+  pub place : e.place ≡ record { lane = lane; line = line }
+
+-- A line's look-up held a peer and a key of it.
+pub record LooksUp (report : Report) (lane line : ℕ) (hold : HoldView) : Type 0 where
+  pub n : ℕ
+  pub entry : Entry
+  pub made : IsEntryOf report lane line n entry
+  pub held : entry.reply ≡ reply.Hold hold
 
 -- ---- replay
 
@@ -32,15 +74,22 @@ answer_at lanes lane line = option_and_then (λ log. slice_get log.answers line)
 abbrev pub IsSealed : Report → (lane line : ℕ) → SealedOut → Type 0
 IsSealed report lane line s = answer_at report.lanes lane line ≡ Some (answer.Sealed s)
 
--- A sealed answer's datagram was sealed with the key that the history installed under the answer's serial,
--- and its nonce is of the answer's packet id and that key's nonce tail.
-pub record SealedUnder (report : Report) (s : SealedOut) : Type 0 where
-  pub material : Material
-  pub material_is : key_of report.journal s.key ≡ Some material
-  pub id : ℕ
-  pub key_id : ℕ
+-- A sealed answer's datagram holds the line's packet. It was sealed with the key that the line's look-up
+-- held, as the history installed it; its head names the held peer and key; its nonce is of the answer's
+-- packet id and that key's nonce tail.
+pub record SealedUnder (report : Report) (lane line : ℕ) (s : SealedOut) : Type 0 where
   pub packet : List ℕ
-  pub datagram_is : s.datagram ≡ datagram id key_id s.id (key_list material.encrypt.key) material.encrypt.tail packet
+  pub sends : Sends report lane line packet
+  pub hold : HoldView
+  pub held : LooksUp report lane line hold
+  pub key_is : s.key ≡ hold.key
+  pub to_is : s.to ≡ hold.to
+  pub material : Material
+  pub material_is : key_of report.journal hold.key ≡ Some material
+  pub datagram_is : s.datagram ≡ datagram hold.id.number hold.key_id.number s.id (key_list material.encrypt.key) material.encrypt.tail packet
+
+abbrev pub SealsUnderHeld : Report → Type 0
+SealsUnderHeld report = (lane line : ℕ) (s : SealedOut) → IsSealed report lane line s → SealedUnder report lane line s
 
 -- Two sealed answers with the same bytes of their keys and the same nonce are one and the same.
 abbrev pub NoncesDiffer : Report → Type 0

@@ -9,7 +9,7 @@ use Rattle.ov_model.specs.declared.replay.ReplayEntry.{ReplayEntry}
 use Rattle.ov_model.specs.declared.report.LaneLog.{LaneLog}
 use Rattle.ov_model.specs.declared.report.Report.{Report}
 use Rattle.ov_model.specs.Runs.{IsRun, notes_of}
-use Rattle.ov_model.specs.Events.{Step, Judgement, of, shown_in, steps_of}
+use Rattle.ov_model.specs.Events.{Step, of, shown_in, steps_of}
 use Rattle.ov_model.specs.Tables.{Material}
 use Rattle.ov_model.specs.Path.{Path}
 use Rattle.ov_model.specs.Keys.{key_of, IdsCount}
@@ -50,22 +50,19 @@ abbrev pub NeverFall : ℕ → List Step → Type 0
 NeverFall lane [] = Unit {0}
 NeverFall lane (s ∷ steps) = (s.entry.place.lane ≡ lane → AllByRecursion (λ later. later.entry.place.lane ≡ lane → s.entry.place.line ≤ later.entry.place.line) steps) × NeverFall lane steps
 
--- A lane of which the first lines are answered and the next one, if it began, has made the steps
--- `now` and the replay steps `judged` so far; no step is of a later line. At the end of a run nothing
--- is under way and both are empty, so that each step of the lane is of an answered line.
-pub record LaneMeets (material : ℕ → Option Material) (via : Addr → Addr) (steps : List Step) (shards : List (List ReplayEntry)) (lane : ℕ) (lines : List Line) (answers : List Answer) (now : List Step) (judged : List Judgement) : Type 0 where
-  pub within : AllByRecursion (λ s. s.entry.place.lane ≡ lane → s.entry.place.line ≤ length answers) steps
-  pub judged_within : AllByRecursion (λ shard. AllByRecursion (λ r. r.place.lane ≡ lane → r.place.line ≤ length answers) shard) shards
+-- A lane whose lines are answered, so many as there are answers: each of its steps and replay steps is of
+-- an answered line, its lines' numbers never fall along the steps, and each answered line has a path.
+pub record LaneMeets (material : ℕ → Option Material) (via : Addr → Addr) (steps : List Step) (shards : List (List ReplayEntry)) (lane : ℕ) (lines : List Line) (answers : List Answer) : Type 0 where
+  pub within : AllByRecursion (λ s. s.entry.place.lane ≡ lane → s.entry.place.line < length answers) steps
+  pub judged_within : AllByRecursion (λ shard. AllByRecursion (λ r. r.place.lane ≡ lane → r.place.line < length answers) shard) shards
   pub falls : NeverFall lane steps
   pub each : (i : ℕ) → i < length answers → Meets material via steps shards lane lines answers i
-  pub under_way : of steps lane (length answers) ≡ now
-  pub judging : shown_in shards lane (length answers) ≡ judged
 
 -- Lines and steps: each step has a lane and a line of the report, in each lane the lines' numbers
 -- never fall along the journal, and each line has a path.
 pub record LinesFollowPath (material : ℕ → Option Material) (via : Addr → Addr) (report : Report) : Type 0 where
   pub within : AllByRecursion (λ s. s.entry.place.lane < length report.lanes) (steps_of report.journal)
-  pub each : (lane : ℕ) (log : LaneLog) → slice_get report.lanes lane ≡ Some log → LaneMeets material via (steps_of report.journal) report.shards lane log.lines log.answers [] []
+  pub each : (lane : ℕ) (log : LaneLog) → slice_get report.lanes lane ≡ Some log → LaneMeets material via (steps_of report.journal) report.shards lane log.lines log.answers
 
 -- Along a shard, the line numbers of a lane rise: a line makes one replay step at most.
 abbrev pub LinesRise : ℕ → List ReplayEntry → Type 0

@@ -12,6 +12,8 @@ pub mod Replay
 pub mod Removals
 pub mod Keys
 pub mod Legal
+pub mod Lanes
+pub mod Own
 pub mod Laws
 pub mod Delivery
 pub mod Lifetime

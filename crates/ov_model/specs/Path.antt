@@ -1,4 +1,5 @@
--- Which steps and which answer one line has: a table over finished lists, one row for each case.
+-- Which steps, which replay steps and which answer one line has: a table over finished lists, a record for
+-- each row.
 use Rattle.std.specs.Prelude.{ℕ, ◌+◌, ◌≡◌, ⊤, List, [], ◌∷◌, ◌++◌, length, Bool, true, false, Option, Some, None, unwrap_or, map, Result, Ok, Err, IsSome}
 use Rattle.ov_aes.specs.Aes.{key_list}
 use Rattle.ov_base.specs.declared.address.Addr.{Addr}
@@ -131,7 +132,7 @@ UseFits (deed.Rx from bytes) m (used.Refused x) = IsSome (opened m.decrypt bytes
 UseFits (deed.Rx from bytes) m (used.Settled s) = IsSome (opened m.decrypt bytes)
 UseFits _ m _ = ⊥
 
--- The key that a spent use took out of its slot.
+-- The key that a spent use took out of its slot, and the reply that says so.
 abbrev pub spent_taken : Bool → ℕ → List ℕ
 spent_taken true key = key ∷ []
 spent_taken false key = []
@@ -147,45 +148,25 @@ sent_act h packet = act.Sent h.peer (length packet) (outer_length (length packet
 abbrev pub settle_act : (Addr → Addr) → HoldView → (packet bytes : List ℕ) → Act
 settle_act via h packet bytes = act.Settle h.peer None (kind_via via (kind_of packet)) (length packet) (length bytes)
 
-abbrev pub tx_steps : Place → ℕ → HoldView → List ℕ → Use → List Step
-tx_steps place at h packet (used.Sealed n) = step_of place at (sent_act h packet) reply.Done [] ∷ []
-tx_steps place at h packet (used.Spent killed) = step_of place at (act.Spend h.peer h.key) (spent_reply killed) (spent_taken killed h.key) ∷ []
-tx_steps place at h packet _ = []
+-- The replay step of a datagram under the held key.
+abbrev pub replay_of : Place → ℕ → HoldView → List ℕ → Verdict → Judgement
+replay_of place at h bytes v = record { place = place; key = h.key; id = packet_id_of bytes; at = at; verdict = v }
 
-abbrev pub rx_steps : (Addr → Addr) → Place → ℕ → HoldView → (packet bytes : List ℕ) → Use → List Step
-rx_steps via place at h packet bytes (used.Settled s) = step_of place at (settle_act via h packet bytes) (reply.Settled s) [] ∷ []
-rx_steps via place at h packet bytes _ = []
-
-abbrev pub use_steps : (Addr → Addr) → Place → ℕ → Deed → HoldView → Material → Use → List Step
-use_steps via place at (deed.Tx packet) h m u = tx_steps place at h packet u
-use_steps via place at (deed.Rx from bytes) h m u = rx_steps via place at h (packet_in (deed.Rx from bytes) m) bytes u
-use_steps via place at (deed.Netlink n) h m u = []
-
--- A refusal is one of the verdicts.
+-- A refusal is one of the verdicts, and a packet id that isn't fresh is dropped with the refusal's own
+-- cause.
 abbrev pub refused_as : Refusal → Verdict
 refused_as refusal.Zero = verdict.Zero
 refused_as refusal.Old = verdict.Old
 refused_as refusal.Below = verdict.Below
 refused_as refusal.Again = verdict.Again
 
--- The replay step that a use makes: where the tag verifies.
-abbrev pub rx_judgements : Place → ℕ → HoldView → List ℕ → Use → List Judgement
-rx_judgements place at h bytes (used.Refused x) = record { place = place; key = h.key; id = packet_id_of bytes; at = at; verdict = refused_as x } ∷ []
-rx_judgements place at h bytes (used.Settled s) = record { place = place; key = h.key; id = packet_id_of bytes; at = at; verdict = verdict.Accept } ∷ []
-rx_judgements place at h bytes _ = []
-
-abbrev pub use_judgements : Place → ℕ → Deed → HoldView → Use → List Judgement
-use_judgements place at (deed.Rx from bytes) h u = rx_judgements place at h bytes u
-use_judgements place at (deed.Tx packet) h u = []
-use_judgements place at (deed.Netlink n) h u = []
-
--- The answer of a use. A packet id that isn't fresh is dropped with the refusal's own cause.
 abbrev pub cause_of : Refusal → DropCause
 cause_of refusal.Zero = drop.Zero
 cause_of refusal.Old = drop.Old
 cause_of refusal.Below = drop.Below
 cause_of refusal.Again = drop.Again
 
+-- The answer of a settled packet.
 abbrev pub settled_answer : Settled → HoldView → List ℕ → Answer
 settled_answer settled.Deliver h packet = answer.Delivered h.id packet
 settled_answer settled.Ping h packet = answer.Keepalive h.id
@@ -195,27 +176,75 @@ settled_answer settled.NotOwner h packet = answer.Dropped drop.NotOwner
 abbrev pub sealed_datagram : HoldView → Material → ℕ → List ℕ → List ℕ
 sealed_datagram h m n packet = datagram h.id.number h.key_id.number n (key_list m.encrypt.key) m.encrypt.tail packet
 
-abbrev pub use_answer : Deed → HoldView → Material → Use → Answer
-use_answer d h m (used.Sealed n) = answer.Sealed (record { to = h.to; key = h.key; id = n; datagram = sealed_datagram h m n (packet_in d m) })
-use_answer d h m (used.Spent killed) = answer.Dropped drop.Spent
-use_answer d h m used.BadTag = answer.Dropped drop.BadTag
-use_answer d h m (used.Refused x) = answer.Dropped (cause_of x)
-use_answer d h m (used.Settled s) = settled_answer s h (packet_in d m)
+-- The columns of the table: steps of the peer table, replay steps, the answer.
+pub record Columns : Type 0 where
+  pub steps : List Step
+  pub judgements : List Judgement
+  pub answer : Answer
+
+-- What UseFits refuses stands in no row.
+abbrev pub no_row : Columns
+no_row = record { steps = []; judgements = []; answer = answer.Control }
+
+-- The rows of a packet that is sent: it is sealed with a packet id, or the key is spent.
+abbrev pub tx_row : Place → ℕ → HoldView → Material → List ℕ → Use → Columns
+tx_row place at h m packet (used.Sealed n) = record {
+  steps = step_of place at (sent_act h packet) reply.Done [] ∷ [];
+  judgements = [];
+  answer = answer.Sealed (record { to = h.to; key = h.key; id = n; datagram = sealed_datagram h m n packet });
+}
+tx_row place at h m packet (used.Spent killed) = record {
+  steps = step_of place at (act.Spend h.peer h.key) (spent_reply killed) (spent_taken killed h.key) ∷ [];
+  judgements = [];
+  answer = answer.Dropped drop.Spent;
+}
+tx_row place at h m packet _ = no_row
+
+-- The rows of a received datagram: its tag doesn't verify, its packet id is refused, or its packet is settled.
+abbrev pub rx_row : (Addr → Addr) → Place → ℕ → HoldView → (packet bytes : List ℕ) → Use → Columns
+rx_row via place at h packet bytes used.BadTag = record {
+  steps = [];
+  judgements = [];
+  answer = answer.Dropped drop.BadTag;
+}
+rx_row via place at h packet bytes (used.Refused x) = record {
+  steps = [];
+  judgements = replay_of place at h bytes (refused_as x) ∷ [];
+  answer = answer.Dropped (cause_of x);
+}
+rx_row via place at h packet bytes (used.Settled s) = record {
+  steps = step_of place at (settle_act via h packet bytes) (reply.Settled s) [] ∷ [];
+  judgements = replay_of place at h bytes verdict.Accept ∷ [];
+  answer = settled_answer s h packet;
+}
+rx_row via place at h packet bytes _ = no_row
+
+-- The row of a use, between the look-up and the releases.
+abbrev pub use_row : (Addr → Addr) → Place → ℕ → Deed → HoldView → Material → Use → Columns
+use_row via place at (deed.Tx packet) h m u = tx_row place at h m packet u
+use_row via place at (deed.Rx from bytes) h m u = rx_row via place at h (packet_in (deed.Rx from bytes) m) bytes u
+use_row via place at (deed.Netlink n) h m u = no_row
+
+-- A peer and its key are looked up, held, used and given back: the look-up with its hold, the material of
+-- the key, what the line made of it, and whether it released the key and the peer.
+pub record Round : Type 0 where
+  pub look : Act
+  pub hold : HoldView
+  pub material : Material
+  pub made : Use
+  pub key : Bool
+  pub peer : Bool
+
+abbrev pub RoundFits : (ℕ → Option Material) → Deed → Round → Type 0
+RoundFits material d r = (material r.hold.key ≡ Some r.material) × UseFits d r.material r.made
+
+abbrev pub round_row : (Addr → Addr) → Place → ℕ → Deed → Round → Columns
+round_row via place at d r = use_row via place at d r.hold r.material r.made
+
+abbrev pub round_steps : (Addr → Addr) → Place → ℕ → Deed → Round → List Step
+round_steps via place at d r = step_of place at r.look (reply.Hold r.hold) [] ∷ ((round_row via place at d r).steps ++ releases place at (hold_owed r.hold r.key r.peer))
 
 -- ---- the rows
-
--- The rows, each with what it leaves open.
-pub data Row : Type 0 where
-  -- An answer without a step: a netlink message that the attribute checks refuse, a packet that isn't IP,
-  -- a datagram that isn't a data packet.
-  AtOnce : Answer → Row
-  -- A command, its reply, the keys that it took out of a slot, and the releases that the line made.
-  Commanded : Command → Reply → (taken : List ℕ) → (os : List Owed) → Row
-  -- A look-up that found nothing.
-  Missed : Act → Reply → DropCause → Row
-  -- A look-up with its hold, the material of the key, what the line made of it, and whether it released
-  -- the key and the peer.
-  Held : Act → HoldView → Material → Use → (key peer : Bool) → Row
 
 abbrev pub IsLook : Act → Type 0
 IsLook (act.TxLook a) = ⊤
@@ -227,37 +256,50 @@ IsMiss reply.NoPeer cause = cause ≡ drop.NoPeer
 IsMiss reply.NoKey cause = cause ≡ drop.NoKey
 IsMiss _ cause = ⊥
 
--- Which line a row is about, and what the row asks of what it leaves open.
-abbrev pub RowFits : (ℕ → Option Material) → (Addr → Addr) → Line → Row → Type 0
-RowFits material via line (AtOnce a) = begins via line.deed ≡ at_once a
-RowFits material via line (Commanded c r taken os) = (begins via line.deed ≡ first (act.Do c)) × SomeOwed taken (removed r) os
-RowFits material via line (Missed a r cause) = (begins via line.deed ≡ first a) × IsLook a × IsMiss r cause
-RowFits material via line (Held a h m u key peer) = (begins via line.deed ≡ first a) × (material h.key ≡ Some m) × UseFits line.deed m u
+-- An answer without a step: a netlink message that the attribute checks refuse, a packet that isn't IP, a
+-- datagram that isn't a data packet.
+pub record AtOnceRow (via : Addr → Addr) (line : Line) (steps : List Step) (judgements : List Judgement) (a : Answer) : Type 0 where
+  pub begins_so : begins via line.deed ≡ at_once a
+  pub steps_are : steps ≡ []
+  pub judgements_are : judgements ≡ []
 
--- A row's columns: the steps of the peer table, those of the replay shards, the answer.
-abbrev pub row_steps : (Addr → Addr) → Place → Line → Row → List Step
-row_steps via place line (AtOnce a) = []
-row_steps via place line (Commanded c r taken os) = step_of place line.at (act.Do c) r taken ∷ releases place line.at os
-row_steps via place line (Missed a r cause) = step_of place line.at a r [] ∷ []
-row_steps via place line (Held a h m u key peer) = step_of place line.at a (reply.Hold h) [] ∷ (use_steps via place line.at line.deed h m u ++ releases place line.at (hold_owed h key peer))
+-- A command with its reply, the keys that it took out of a slot, and the releases that the line made.
+pub record CommandRow (via : Addr → Addr) (place : Place) (line : Line) (steps : List Step) (judgements : List Judgement) (a : Answer) : Type 0 where
+  pub command : Command
+  pub r : Reply
+  pub taken : List ℕ
+  pub os : List Owed
+  pub begins_so : begins via line.deed ≡ first (act.Do command)
+  pub some : SomeOwed taken (removed r) os
+  pub steps_are : steps ≡ step_of place line.at (act.Do command) r taken ∷ releases place line.at os
+  pub judgements_are : judgements ≡ []
+  pub answer_is : a ≡ answer.Reply r
 
-abbrev pub row_judgements : Place → Line → Row → List Judgement
-row_judgements place line (AtOnce a) = []
-row_judgements place line (Commanded c r taken os) = []
-row_judgements place line (Missed a r cause) = []
-row_judgements place line (Held a h m u key peer) = use_judgements place line.at line.deed h u
+-- A look-up that found nothing.
+pub record MissRow (via : Addr → Addr) (place : Place) (line : Line) (steps : List Step) (judgements : List Judgement) (a : Answer) : Type 0 where
+  pub look : Act
+  pub r : Reply
+  pub cause : DropCause
+  pub begins_so : begins via line.deed ≡ first look
+  pub looks : IsLook look
+  pub misses : IsMiss r cause
+  pub steps_are : steps ≡ step_of place line.at look r [] ∷ []
+  pub judgements_are : judgements ≡ []
+  pub answer_is : a ≡ answer.Dropped cause
 
-abbrev pub row_answer : Line → Row → Answer
-row_answer line (AtOnce a) = a
-row_answer line (Commanded c r taken os) = answer.Reply r
-row_answer line (Missed a r cause) = answer.Dropped cause
-row_answer line (Held a h m u key peer) = use_answer line.deed h m u
+-- A look-up with its hold, and what the line made of it.
+pub record RoundRow (material : ℕ → Option Material) (via : Addr → Addr) (place : Place) (line : Line) (steps : List Step) (judgements : List Judgement) (a : Answer) : Type 0 where
+  pub round : Round
+  pub begins_so : begins via line.deed ≡ first round.look
+  pub fits : RoundFits material line.deed round
+  pub steps_are : steps ≡ round_steps via place line.at line.deed round
+  pub judgements_are : judgements ≡ (round_row via place line.at line.deed round).judgements
+  pub answer_is : a ≡ (round_row via place line.at line.deed round).answer
 
--- A line's steps, replay steps and answer are those of a row that fits the line. `material` is what
--- the keys' serials stand for and `via` is the next hop of an address.
-pub record Path (material : ℕ → Option Material) (via : Addr → Addr) (place : Place) (line : Line) (steps : List Step) (judgements : List Judgement) (a : Answer) : Type 0 where
-  pub row : Row
-  pub fits : RowFits material via line row
-  pub steps_are : steps ≡ row_steps via place line row
-  pub judgements_are : judgements ≡ row_judgements place line row
-  pub answer_is : a ≡ row_answer line row
+-- A line's steps, replay steps and answer are those of one of the rows. `material` is what the keys'
+-- serials stand for and `via` is the next hop of an address.
+pub data Path (material : ℕ → Option Material) (via : Addr → Addr) (place : Place) (line : Line) (steps : List Step) (judgements : List Judgement) (a : Answer) : Type 0 where
+  by_at_once : AtOnceRow via line steps judgements a → Path material via place line steps judgements a
+  by_command : CommandRow via place line steps judgements a → Path material via place line steps judgements a
+  by_miss : MissRow via place line steps judgements a → Path material via place line steps judgements a
+  by_round : RoundRow material via place line steps judgements a → Path material via place line steps judgements a

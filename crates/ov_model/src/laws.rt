@@ -1,20 +1,12 @@
 //! What follows from the definitions alone. Each law is the contract of a function that does nothing.
 
-ghost use Rattle.std.specs.Prelude.{ℕ, List, ◌≡◌, ◌↔◌, Some};
-ghost use Rattle.ov_base.specs.declared.address.Transport.{Transport};
-ghost use Rattle.ov_model.specs.declared.answer.Answer.{Answer};
-ghost use Rattle.ov_model.specs.declared.answer.Answer.TheVariants.{Delivered};
-ghost use Rattle.ov_model.specs.declared.answer.SealedOut.{SealedOut};
+ghost use Rattle.std.specs.Prelude.{List, ◌↔◌};
 ghost use Rattle.ov_model.specs.declared.entry.Entry.{Entry};
-ghost use Rattle.ov_model.specs.declared.ident.PeerId.{PeerId};
-ghost use Rattle.ov_model.specs.declared.line.Script.{Script};
-ghost use Rattle.ov_model.specs.declared.report.Report.{Report};
 ghost use Rattle.ov_model.specs.Runs.{IsRun, notes_of};
 ghost use Rattle.ov_model.specs.Removals.{RemovalsNoted, AllReleased, EachReleasedOnce};
-ghost use Rattle.ov_model.specs.Legal.{Legal};
 ghost use Rattle.ov_model.specs.Keys.{KeysDiffer};
-ghost use Rattle.ov_model.specs.Laws.{answer_at, AcceptsOnce, IsSealed, SealedUnder, NoncesDiffer};
-ghost use Rattle.ov_model.specs.Delivery.{Receives, IsReceived, Delivers};
+ghost use Rattle.ov_model.specs.Laws.{OfEveryLegal, SealsUnderHeld, NoncesDiffer, AcceptsOnce};
+ghost use Rattle.ov_model.specs.Delivery.{DeliversExactly, DeliversReceived, DeliversOnce};
 ghost use Rattle.ov_model.specs.Lifetime.{PeersStayReleased, KeysStayReleased};
 
 /// In every run the notes of each removal are those of the removed peers, in order, with the reason,
@@ -25,29 +17,37 @@ pub fn removals()
     ensures released { (journal : List Entry) → IsRun journal → AllReleased journal ↔ EachReleasedOnce journal }
 {}
 
-/// The nonce law: in every legal report each sealed answer's datagram was sealed with the key that the
-/// history installed under the answer's serial, its nonce made of the answer's packet id and that key's
-/// nonce tail. And where no two keys of the history have the same sealing key and tail, no two sealed
-/// answers at different places, of whatever lanes, have the same bytes of the key and the same nonce.
+/// The nonce law: in every legal report each sealed answer's datagram holds the packet of its line. It was
+/// sealed with the key that the line's look-up held, as the history installed it; its head names the held
+/// peer and key, and its nonce is made of the answer's packet id and that key's nonce tail. And where no two
+/// keys of the history have the same sealing key and tail, no two sealed answers at different places, of
+/// whatever lanes, have the same bytes of the key and the same nonce.
 pub fn n1()
-    ensures sealed { (script : Script) (first : ℕ) (report : Report) → Legal script first report → (lane line : ℕ) (s : SealedOut) → IsSealed report lane line s → SealedUnder report s }
-    ensures differ { (script : Script) (first : ℕ) (report : Report) → Legal script first report → KeysDiffer report.journal → NoncesDiffer report }
+    ensures sealed { OfEveryLegal SealsUnderHeld }
+    ensures differ { OfEveryLegal (λ report. KeysDiffer report.journal → NoncesDiffer report) }
 {}
 
 /// The replay law: in every legal report any two different replay steps that accept differ in their key
 /// or in their packet id, whatever shards they stand in: under one key no packet id is accepted twice.
 pub fn n2()
-    ensures once { (script : Script) (first : ℕ) (report : Report) → Legal script first report → AcceptsOnce report.shards }
+    ensures once { OfEveryLegal (λ report. AcceptsOnce report.shards) }
 {}
 
 /// The delivery law: in every legal report an answered line that received a datagram is answered with a
 /// packet of a peer exactly where its look-up held that peer and a key of it, the tag verifies under this
-/// key and this is the packet that it opens to, the line's replay step accepted the packet id, and the
-/// peer with the VPN address of the packet's source was this very peer when the packet was settled. No
-/// other line is answered so.
+/// key and this is the packet that it opens to, the line's replay step accepted the datagram's packet id
+/// under this key, and the peer with the VPN address of the packet's source was this very peer when the
+/// packet was settled. No other line is answered so.
 pub fn n3()
-    ensures delivered { (script : Script) (first : ℕ) (report : Report) → Legal script first report → (lane line : ℕ) (from : Transport) (bytes : List ℕ) (a : Answer) → Receives report lane line from bytes → answer_at report.lanes lane line ≡ Some a → (id : PeerId) (packet : List ℕ) → (a ≡ Delivered id packet) ↔ Delivers report lane line bytes id packet }
-    ensures received { (script : Script) (first : ℕ) (report : Report) → Legal script first report → (lane line : ℕ) (id : PeerId) (packet : List ℕ) → answer_at report.lanes lane line ≡ Some (Delivered id packet) → IsReceived report lane line }
+    ensures delivered { OfEveryLegal DeliversExactly }
+    ensures received { OfEveryLegal DeliversReceived }
+{}
+
+/// In every legal report any two different lines that are answered with a packet of a received datagram
+/// held different keys, or their datagrams differ in the packet id: under one key a datagram is delivered
+/// at most once, however often and to whatever lanes it comes.
+pub fn delivered_once()
+    ensures once { OfEveryLegal DeliversOnce }
 {}
 
 /// The lifetime law: in every run, no entry after the one that let a peer go names that peer, neither in
@@ -56,5 +56,5 @@ pub fn n3()
 pub fn n4()
     ensures peers { (journal : List Entry) → IsRun journal → PeersStayReleased journal }
     ensures keys { (journal : List Entry) → IsRun journal → KeysStayReleased journal }
-    ensures report { (script : Script) (first : ℕ) (report : Report) → Legal script first report → PeersStayReleased report.journal × KeysStayReleased report.journal }
+    ensures report { OfEveryLegal (λ r. PeersStayReleased r.journal × KeysStayReleased r.journal) }
 {}

@@ -25,7 +25,7 @@ use Rattle.ov_model.specs.declared.answer.DropCause.{DropCause}
 use Rattle.ov_model.specs.Tables.{Material}
 use Rattle.ov_model.specs.Events.{Event, GaveKey, GavePeer, release_of, releases, steps_in, judgements_in, draws_in}
 use Rattle.ov_model.specs.Keys.{sealed_ids}
-use Rattle.ov_model.specs.Path.{at_once, first, begins, IsLook, IsMiss, UseFits, use_steps, use_judgements, use_answer, settled_answer, owed_where, hold_owed, AtOnce, Commanded, Missed, Held as HeldRow}
+use Rattle.ov_model.specs.Path.{at_once, first, begins, IsLook, IsMiss, UseFits, settled_answer, Columns, use_row, owed_where, hold_owed, by_at_once, by_command, by_miss, by_round}
 use Rattle.ov_path.specs.Desks.{Holding, View, Called, owed_if, first_owed, look_holds}
 use Rattle.ov_path.specs.Stages.{ends}
 use Rattle.ov_path.specs.declared.stage.Stage.{Stage}
@@ -60,7 +60,7 @@ draws_released : (place : Place) (at : ℕ) (os : List Owed) → draws_in (relea
 draws_released place at [] = refl
 draws_released place at (o ∷ os) = draws_released place at os
 
-steps_of_use : (via : Addr → Addr) (place : Place) (at : ℕ) (d : Deed) (h : HoldView) (m : Material) (u : Use) (es : List Event) → steps_in (use_events via place at d h m u ++ es) ≡ use_steps via place at d h m u ++ steps_in es
+steps_of_use : (via : Addr → Addr) (place : Place) (at : ℕ) (d : Deed) (h : HoldView) (m : Material) (u : Use) (es : List Event) → steps_in (use_events via place at d h m u ++ es) ≡ (use_row via place at d h m u).steps ++ steps_in es
 steps_of_use via place at (deed.Netlink n) h m u es = refl
 steps_of_use via place at (deed.Tx packet) h m (used.Sealed i) es = refl
 steps_of_use via place at (deed.Tx packet) h m (used.Spent killed) es = refl
@@ -73,7 +73,7 @@ steps_of_use via place at (deed.Rx from bytes) h m used.BadTag es = refl
 steps_of_use via place at (deed.Rx from bytes) h m (used.Refused v) es = refl
 steps_of_use via place at (deed.Rx from bytes) h m (used.Settled s) es = refl
 
-judgements_of_use : (via : Addr → Addr) (place : Place) (at : ℕ) (d : Deed) (h : HoldView) (m : Material) (u : Use) (es : List Event) → judgements_in (use_events via place at d h m u ++ es) ≡ use_judgements place at d h u ++ judgements_in es
+judgements_of_use : (via : Addr → Addr) (place : Place) (at : ℕ) (d : Deed) (h : HoldView) (m : Material) (u : Use) (es : List Event) → judgements_in (use_events via place at d h m u ++ es) ≡ (use_row via place at d h m u).judgements ++ judgements_in es
 judgements_of_use via place at (deed.Netlink n) h m u es = refl
 judgements_of_use via place at (deed.Tx packet) h m (used.Sealed i) es = refl
 judgements_of_use via place at (deed.Tx packet) h m (used.Spent killed) es = refl
@@ -93,7 +93,7 @@ settled_unsealed settled.NotIp h packet = refl
 settled_unsealed settled.NotOwner h packet = refl
 
 -- What a use draws is what it seals.
-draws_of_use : (via : Addr → Addr) (place : Place) (at : ℕ) (d : Deed) (h : HoldView) (m : Material) (u : Use) (es : List Event) → UseFits d m u → draws_in es ≡ [] → draws_in (use_events via place at d h m u ++ es) ≡ sealed_ids (use_answer d h m u)
+draws_of_use : (via : Addr → Addr) (place : Place) (at : ℕ) (d : Deed) (h : HoldView) (m : Material) (u : Use) (es : List Event) → UseFits d m u → draws_in es ≡ [] → draws_in (use_events via place at d h m u ++ es) ≡ sealed_ids (use_row via place at d h m u).answer
 draws_of_use via place at (deed.Netlink n) h m u es fits none = absurd fits
 draws_of_use via place at (deed.Tx packet) h m (used.Sealed i) es fits none = rw none refl
 draws_of_use via place at (deed.Tx packet) h m (used.Spent killed) es fits none = none
@@ -114,7 +114,7 @@ pub nothing_over : {via : Addr → Addr} {place : Place} {line : Line} {w : View
 nothing_over {via = via} {line = line} b k begins_so = record {
   owes = k.trail.owes;
   hold = k.hold;
-  path = record { row = AtOnce b; fits = begins_so; steps_are = rw k.trail.none refl; judgements_are = rw k.trail.none refl; answer_is = refl };
+  path = by_at_once (record { begins_so = begins_so; steps_are = rw k.trail.none refl; judgements_are = rw k.trail.none refl });
   drawn = rw k.trail.none (sym (at_once_unsealed via line.deed b begins_so));
 }
 
@@ -133,7 +133,7 @@ missed_over {view = view} {d = d} {e = e} look r cause k begins_so is_look miss 
     record {
       owes = called.leaves.owing_is ∙ rw (k.trail.owes, says.joins) refl;
       hold = called.leaves.hold_is ∙ says.hold ∙ miss_holds (view d).hold r cause miss ∙ k.hold;
-      path = record { row = Missed look r cause; fits = (begins_so, is_look, miss); steps_are = rw (called.leaves.events, k.trail.none, says.takes) refl; judgements_are = rw (called.leaves.events, k.trail.none) refl; answer_is = refl };
+      path = by_miss (record { look = look; r = r; cause = cause; begins_so = begins_so; looks = is_look; misses = miss; steps_are = rw (called.leaves.events, k.trail.none, says.takes) refl; judgements_are = rw (called.leaves.events, k.trail.none) refl; answer_is = refl });
       drawn = rw (called.leaves.events, k.trail.none) refl;
     }
 
@@ -146,13 +146,17 @@ replied_over {via = via} {place = place} {line = line} {w = w} {b = b} k none =
     record {
       owes = none;
       hold = k.hold;
-      path = record {
-        row = Commanded t.command t.r t.taken t.all;
-        fits = (t.begins_so, t.some);
+      path = by_command (record {
+        command = t.command;
+        r = t.r;
+        taken = t.taken;
+        os = t.all;
+        begins_so = t.begins_so;
+        some = t.some;
         steps_are = rw (t.events, ← all) (same_head _ (steps_in (released place line.at t.done)) (releases place line.at t.done) (steps_released place line.at t.done));
         judgements_are = rw t.events (judgements_released place line.at t.done);
         answer_is = t.answer;
-      };
+      });
       drawn = rw (t.events, t.answer) (draws_released place line.at t.done);
     }
 
@@ -172,6 +176,7 @@ held_over {via = via} {place = place} {line = line} {w = w} {h = h} {u = u} {b =
     let keys : List Owed = owed_if t.key (owed.Key h.key) in
     let peers : List Owed = owed_if t.peer (owed.Peer h.peer) in
     let all : t.done ≡ peers = all_done t.done w.owing peers t.owes none in
+    let row : Columns = use_row via place line.at line.deed h t.m u in
     let back : List Event = GaveKey h.key t.key ∷ (released place line.at keys ++ GavePeer h.peer t.peer ∷ released place line.at t.done) in
     let both : hold_owed h (is_last t.key) (is_last t.peer) ≡ keys ++ peers = rw (← last_owed t.key (owed.Key h.key), ← last_owed t.peer (owed.Peer h.peer)) refl in
     let back_steps : steps_in back ≡ releases place line.at (hold_owed h (is_last t.key) (is_last t.peer)) =
@@ -180,20 +185,21 @@ held_over {via = via} {place = place} {line = line} {w = w} {h = h} {u = u} {b =
     judgements_released-append place line.at keys (GavePeer h.peer t.peer ∷ released place line.at t.done) ∙ judgements_released place line.at t.done in
     let back_draws : draws_in back ≡ [] =
     draws_released-append place line.at keys (GavePeer h.peer t.peer ∷ released place line.at t.done) ∙ draws_released place line.at t.done in
-    let steps : steps_in (use_events via place line.at line.deed h t.m u ++ back) ≡ use_steps via place line.at line.deed h t.m u ++ releases place line.at (hold_owed h (is_last t.key) (is_last t.peer)) =
-    steps_of_use via place line.at line.deed h t.m u back ∙ ap (λ ss. use_steps via place line.at line.deed h t.m u ++ ss) back_steps in
-    let judgements : judgements_in (use_events via place line.at line.deed h t.m u ++ back) ≡ use_judgements place line.at line.deed h u =
-    judgements_of_use via place line.at line.deed h t.m u back ∙ ap (λ js. use_judgements place line.at line.deed h u ++ js) back_judgements ∙ append-nil _ in
+    let steps : steps_in (use_events via place line.at line.deed h t.m u ++ back) ≡ row.steps ++ releases place line.at (hold_owed h (is_last t.key) (is_last t.peer)) =
+    steps_of_use via place line.at line.deed h t.m u back ∙ ap (λ ss. row.steps ++ ss) back_steps in
+    let judgements : judgements_in (use_events via place line.at line.deed h t.m u ++ back) ≡ row.judgements =
+    judgements_of_use via place line.at line.deed h t.m u back ∙ ap (λ js. row.judgements ++ js) back_judgements ∙ append-nil _ in
     record {
       owes = none;
       hold = k.hold;
-      path = record {
-        row = HeldRow t.held.look h t.m u (is_last t.key) (is_last t.peer);
-        fits = (t.held.begins_so, t.held.has, t.fits);
+      path = by_round (record {
+        round = record { look = t.held.look; hold = h; material = t.m; made = u; key = is_last t.key; peer = is_last t.peer };
+        begins_so = t.held.begins_so;
+        fits = (t.held.has, t.fits);
         steps_are = ap steps_in t.held.events ∙ same_head _ _ _ steps;
         judgements_are = ap judgements_in t.held.events ∙ judgements;
         answer_is = t.answer;
-      };
+      });
       drawn = ap draws_in t.held.events ∙ draws_of_use via place line.at line.deed h t.m u back t.fits back_draws ∙ ap sealed_ids (sym t.answer);
     }
 

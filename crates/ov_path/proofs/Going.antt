@@ -214,7 +214,7 @@ module _ {D : Type 0} {view : D → View} {does : D → Event → D → Type 0} 
           fits = rw t.is tt;
           held = record { look = k.trail.held.look; begins_so = k.trail.held.begins_so; has = called.leaves.grows _ _ k.trail.held.has; events = called.leaves.events ∙ rw (k.trail.held.events, t.is, called.joins.0, spend_reply r called.fits) refl };
           owes = called.leaves.owing_is ∙ rw (k.trail.owes, called.joins.1) refl;
-          answer = refl;
+          answer = rw t.is refl;
         };
       }
 
@@ -229,7 +229,7 @@ module _ {D : Type 0} {view : D → View} {does : D → Event → D → Type 0} 
       fits = rw deed_is (sym closed);
       held = record { look = k.trail.held.look; begins_so = k.trail.held.begins_so; has = did.leaves.grows _ _ has; events = did.leaves.events ∙ rw (k.trail.held.events, deed_is) refl };
       owes = did.leaves.owing_is ∙ rw k.trail.owes refl;
-      answer = refl;
+      answer = rw deed_is refl;
     };
   }
 
@@ -263,7 +263,7 @@ module _ {D : Type 0} {view : D → View} {does : D → Event → D → Type 0} 
           fits = rw deed_is (rw (← inner) refl);
           held = record { look = k.trail.held.look; begins_so = k.trail.held.begins_so; has = did.leaves.grows _ _ has; events = did.leaves.events ∙ rw (k.trail.held.events, deed_is, r.is) refl };
           owes = did.leaves.owing_is ∙ k.trail.owes;
-          answer = refl;
+          answer = rw deed_is refl;
         };
       }
 

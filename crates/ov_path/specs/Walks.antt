@@ -25,10 +25,10 @@ use Rattle.ov_model.specs.declared.line.Deed.TheVariants as deed
 use Rattle.ov_model.specs.declared.answer.Answer.{Answer}
 use Rattle.ov_model.specs.declared.answer.Answer.TheVariants as answer
 use Rattle.ov_model.specs.Tables.{Material}
-use Rattle.ov_model.specs.Packets.{opened, packet_id_of}
+use Rattle.ov_model.specs.Packets.{opened}
 use Rattle.ov_model.specs.Events.{Event, Stepped, Judged, Drew, GaveKey, GavePeer, steps_in, judgements_in, draws_in, step_of, releases}
 use Rattle.ov_model.specs.Keys.{sealed_ids}
-use Rattle.ov_model.specs.Path.{first, begins, SomeOwed, removed, UseFits, refused_as, spent_reply, spent_taken, sent_act, settle_act, use_answer, packet_in, Path}
+use Rattle.ov_model.specs.Path.{first, begins, SomeOwed, removed, UseFits, refused_as, spent_reply, spent_taken, sent_act, settle_act, replay_of, use_row, packet_in, Path}
 use Rattle.ov_model.specs.Next.{Ask, Nil, next, stand_of, request}
 use Rattle.ov_path.specs.Desks.{Holding, NoHold, Both, PeerLeft, View, Grows, SameLine, owed_if}
 use Rattle.ov_path.specs.Parts.{PurposeFits}
@@ -48,7 +48,7 @@ abbrev pub released : Place → ℕ → List Owed → List Event
 released place at os = map Stepped (releases place at os)
 
 abbrev pub judged_as : Place → ℕ → HoldView → List ℕ → Verdict → Event
-judged_as place at h bytes v = Judged (record { place = place; key = h.key; id = packet_id_of bytes; at = at; verdict = v })
+judged_as place at h bytes v = Judged (replay_of place at h bytes v)
 
 -- The events between a look-up and the give-backs.
 abbrev pub tx_events : Place → ℕ → HoldView → List ℕ → Use → List Event
@@ -123,7 +123,7 @@ module _ (via : Addr → Addr) (place : Place) (line : Line) (w : View) where
     pub fits : UseFits line.deed m u
     pub held : Held h m (use_events via place line.at line.deed h m u)
     pub owes : w.owing ≡ []
-    pub answer : a ≡ use_answer line.deed h m u
+    pub answer : a ≡ (use_row via place line.at line.deed h m u).answer
 
   pub record AtKeyGiven (h : HoldView) (u : Use) (a : Answer) : Type 0 where
     pub m : Material
@@ -132,7 +132,7 @@ module _ (via : Addr → Addr) (place : Place) (line : Line) (w : View) where
     pub fits : UseFits line.deed m u
     pub held : Held h m (use_events via place line.at line.deed h m u ++ GaveKey h.key key ∷ released place line.at done)
     pub owes : done ++ w.owing ≡ owed_if key (owed.Key h.key)
-    pub answer : a ≡ use_answer line.deed h m u
+    pub answer : a ≡ (use_row via place line.at line.deed h m u).answer
 
   pub record AtPeerGiven (h : HoldView) (u : Use) (a : Answer) : Type 0 where
     pub m : Material
@@ -142,7 +142,7 @@ module _ (via : Addr → Addr) (place : Place) (line : Line) (w : View) where
     pub fits : UseFits line.deed m u
     pub held : Held h m (use_events via place line.at line.deed h m u ++ GaveKey h.key key ∷ (released place line.at (owed_if key (owed.Key h.key)) ++ GavePeer h.peer peer ∷ released place line.at done))
     pub owes : done ++ w.owing ≡ owed_if peer (owed.Peer h.peer)
-    pub answer : a ≡ use_answer line.deed h m u
+    pub answer : a ≡ (use_row via place line.at line.deed h m u).answer
 
   abbrev pub Trail : Stage → Type 0
   Trail stage.Fresh = AtFresh

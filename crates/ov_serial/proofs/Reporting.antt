@@ -19,7 +19,7 @@ use Rattle.ov_model.specs.Keys.{key_of, ids_of, ids_in, Rises, KeyCounts, IdsCou
 use Rattle.ov_model.specs.Replay.{ShardJudges}
 use Rattle.ov_model.specs.Removals.{RemovalsNoted, AllReleased}
 use Rattle.ov_model.specs.Legal.{lane_lines, LaneMatches, LanesMatch, JournalRuns, LaneMeets, LinesFollowPath, LinesRise, ShardsJudge, Legal}
-use Rattle.ov_model.proofs.Lanes.{all_weaker, filter_all}
+use Rattle.ov_model.proofs.Lanes.{all_weaker, filter_all, lane_done}
 use Rattle.ov_model.proofs.Counting.{counted, length-counted, times_counted, rises_counted}
 use Rattle.ov_model.proofs.Noted.{removals_noted}
 use Rattle.ov_replay.specs.History.{History}
@@ -66,9 +66,9 @@ pub lines_follow : (d : Serial) (lines : List Line) (answers : List Answer) → 
 lines_follow d lines answers rested = record {
   within = rested.within;
   each = λ lane log is. let at : (lane ≡ 0) × (one_log lines answers ≡ log) = the_one (one_log lines answers) log lane is in
-      let P : ℕ → Type 0 = λ n. LaneMeets (key_of d.table.journal) itself (steps_of d.table.journal) (histories d.shards) n log.lines log.answers [] [] in
-      let Q : LaneLog → Type 0 = λ l. LaneMeets (key_of d.table.journal) itself (steps_of d.table.journal) (histories d.shards) 0 l.lines l.answers [] [] in
-      subst P (sym at.0) (subst Q at.1 rested.meets);
+      let P : ℕ → Type 0 = λ n. LaneMeets (key_of d.table.journal) itself (steps_of d.table.journal) (histories d.shards) n log.lines log.answers in
+      let Q : LaneLog → Type 0 = λ l. LaneMeets (key_of d.table.journal) itself (steps_of d.table.journal) (histories d.shards) 0 l.lines l.answers in
+      subst P (sym at.0) (subst Q at.1 (lane_done (steps_of d.table.journal) (histories d.shards) 0 lines answers rested.meets));
 }
 
 -- ---- the journal

@@ -17,7 +17,8 @@ use Rattle.ov_model.specs.Runs.{last_table}
 use Rattle.ov_model.specs.Events.{Event, Step, Judgement, judgement_of, shown_in, steps_after, steps_of, steps_in, judgements_in, draws_in}
 use Rattle.ov_model.specs.Path.{Path}
 use Rattle.ov_model.specs.Keys.{key_by, key_of, spends, sealed_ids, ids_under}
-use Rattle.ov_model.specs.Legal.{LaneMeets, LinesRise}
+use Rattle.ov_model.specs.Legal.{LinesRise}
+use Rattle.ov_model.specs.Lanes.{LaneRuns}
 use Rattle.ov_model.proofs.Going.{steps_after-append}
 use Rattle.ov_model.proofs.Lanes.{AtPlace, Knows, all_append, all_weaker, judged_in, all_judged, own_steps, own_judged, rise_judged, line_done, lane_knows}
 use Rattle.ov_model.proofs.Counting.{counted, ids_of-push}
@@ -63,7 +64,7 @@ goes_spends key old new ss g =
 
 -- The shards after a line, whose steps of the table are already there.
 record Judging (m : ℕ → Option Material) (ss : List Step) (shards : List (List ReplayEntry)) (lines : List Line) (answers : List Answer) (now : List Step) (js : List Judgement) : Type 0 where
-  meets : LaneMeets m itself ss shards 0 lines answers now js
+  meets : LaneRuns m itself ss shards 0 lines answers now js
   within : AllByRecursion (AllByRecursion (λ r. r.place.lane < 1)) shards
   rise : AllByRecursion (LinesRise 0) shards
 
@@ -138,7 +139,7 @@ rested_line d0 d lines answers line a es was before sound since line_is path dra
     let steps : steps_of d.table.journal ≡ all = steps_goes d0.table d.table ss before.told.last since.goes in
     let at : AllByRecursion (AtPlace 0 (length answers)) ss = path_at m itself place line ss js a path in
     let most : MostOneAt place js = path_judged m itself place line ss js a path in
-    let known : LaneMeets m itself (steps_of d0.table.journal) (histories d0.shards) 0 lines answers [] [] =
+    let known : LaneRuns m itself (steps_of d0.table.journal) (histories d0.shards) 0 lines answers [] [] =
     lane_knows (key_of d0.table.journal) m itself (steps_of d0.table.journal) (histories d0.shards) 0 lines answers [] [] (goes_knows d0.table d.table ss since.goes) was.meets in
     let stepped : Judging m all (histories d0.shards) lines answers ss [] = record {
       meets = own_steps (steps_of d0.table.journal) ss (histories d0.shards) 0 lines answers [] [] known at;
@@ -178,7 +179,7 @@ counts_new d key journal next = record {
 
 pub rested_none : (d : Serial) (lines : List Line) → d.table.journal ≡ [] → AllByRecursion (λ s. s.entries ≡ []) d.shards → d.next ≡ [] → Rested d lines []
 rested_none d lines journal shards next =
-    let P : List Entry → Type 0 = λ es. LaneMeets (key_of es) itself (steps_of es) (histories d.shards) 0 lines [] [] [] in
+    let P : List Entry → Type 0 = λ es. LaneRuns (key_of es) itself (steps_of es) (histories d.shards) 0 lines [] [] [] in
     let Q : List Entry → Type 0 = λ es. AllByRecursion (λ s. s.entry.place.lane < 1) (steps_of es) in
     let none : P [] = record {
       within = tt;

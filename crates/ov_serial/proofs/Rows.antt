@@ -15,9 +15,8 @@ use Rattle.ov_model.specs.declared.line.Deed.{Deed}
 use Rattle.ov_model.specs.declared.line.Deed.TheVariants as deed
 use Rattle.ov_model.specs.declared.answer.Answer.{Answer}
 use Rattle.ov_model.specs.Tables.{Material}
-use Rattle.ov_model.specs.Packets.{packet_id_of}
 use Rattle.ov_model.specs.Events.{Step, Judgement, releases}
-use Rattle.ov_model.specs.Path.{Path, Row, AtOnce, Commanded, Missed, Held, hold_owed, tx_steps, rx_steps, use_steps, refused_as, rx_judgements, use_judgements, packet_in, row_steps, row_judgements}
+use Rattle.ov_model.specs.Path.{Path, by_at_once, by_command, by_miss, by_round, hold_owed, replay_of, refused_as, use_row, round_row}
 use Rattle.ov_model.proofs.Lanes.{all_append}
 
 -- ---- the steps
@@ -30,36 +29,26 @@ releases_at place at [] = tt
 releases_at place at (owed.Peer p ∷ os) = (refl, releases_at place at os)
 releases_at place at (owed.Key k ∷ os) = (refl, releases_at place at os)
 
-tx_at : (place : Place) (at : ℕ) (h : HoldView) (packet : List ℕ) (u : Use) → AllByRecursion (IsAt place) (tx_steps place at h packet u)
-tx_at place at h packet (used.Sealed n) = (refl, tt)
-tx_at place at h packet (used.Spent killed) = (refl, tt)
-tx_at place at h packet used.BadTag = tt
-tx_at place at h packet (used.Refused v) = tt
-tx_at place at h packet (used.Settled s) = tt
-
-rx_at : (via : Addr → Addr) (place : Place) (at : ℕ) (h : HoldView) (packet bytes : List ℕ) (u : Use) → AllByRecursion (IsAt place) (rx_steps via place at h packet bytes u)
-rx_at via place at h packet bytes (used.Sealed n) = tt
-rx_at via place at h packet bytes (used.Spent killed) = tt
-rx_at via place at h packet bytes used.BadTag = tt
-rx_at via place at h packet bytes (used.Refused v) = tt
-rx_at via place at h packet bytes (used.Settled s) = (refl, tt)
-
-use_at : (via : Addr → Addr) (place : Place) (at : ℕ) (d : Deed) (h : HoldView) (m : Material) (u : Use) → AllByRecursion (IsAt place) (use_steps via place at d h m u)
+use_at : (via : Addr → Addr) (place : Place) (at : ℕ) (d : Deed) (h : HoldView) (m : Material) (u : Use) → AllByRecursion (IsAt place) (use_row via place at d h m u).steps
 use_at via place at (deed.Netlink n) h m u = tt
-use_at via place at (deed.Tx packet) h m u = tx_at place at h packet u
-use_at via place at (deed.Rx from bytes) h m u = rx_at via place at h (packet_in (deed.Rx from bytes) m) bytes u
-
-row_at : (via : Addr → Addr) (place : Place) (line : Line) (row : Row) → AllByRecursion (IsAt place) (row_steps via place line row)
-row_at via place line (AtOnce a) = tt
-row_at via place line (Commanded c r taken os) = (refl, releases_at place line.at os)
-row_at via place line (Missed a r cause) = (refl, tt)
-row_at via place line (Held a h m u key peer) = (
-  refl,
-  all_append (IsAt place) (use_steps via place line.at line.deed h m u) (releases place line.at (hold_owed h key peer)) (use_at via place line.at line.deed h m u) (releases_at place line.at (hold_owed h key peer)),
-)
+use_at via place at (deed.Tx packet) h m (used.Sealed n) = (refl, tt)
+use_at via place at (deed.Tx packet) h m (used.Spent killed) = (refl, tt)
+use_at via place at (deed.Tx packet) h m used.BadTag = tt
+use_at via place at (deed.Tx packet) h m (used.Refused x) = tt
+use_at via place at (deed.Tx packet) h m (used.Settled s) = tt
+use_at via place at (deed.Rx from bytes) h m (used.Sealed n) = tt
+use_at via place at (deed.Rx from bytes) h m (used.Spent killed) = tt
+use_at via place at (deed.Rx from bytes) h m used.BadTag = tt
+use_at via place at (deed.Rx from bytes) h m (used.Refused x) = tt
+use_at via place at (deed.Rx from bytes) h m (used.Settled s) = (refl, tt)
 
 pub path_at : (material : ℕ → Option Material) (via : Addr → Addr) (place : Place) (line : Line) (ss : List Step) (js : List Judgement) (a : Answer) → Path material via place line ss js a → AllByRecursion (λ s. s.entry.place ≡ place) ss
-path_at material via place line ss js a path = rw path.steps_are (row_at via place line path.row)
+path_at material via place line ss js a (by_at_once r) = rw r.steps_are tt
+path_at material via place line ss js a (by_command r) = rw r.steps_are (refl, releases_at place line.at r.os)
+path_at material via place line ss js a (by_miss r) = rw r.steps_are (refl, tt)
+path_at material via place line ss js a (by_round r) =
+    let os : List Owed = hold_owed r.round.hold r.round.key r.round.peer in
+    rw r.steps_are (refl, all_append (IsAt place) (round_row via place line.at line.deed r.round).steps (releases place line.at os) (use_at via place line.at line.deed r.round.hold r.round.material r.round.made) (releases_at place line.at os))
 
 -- ---- the replay steps
 
@@ -72,23 +61,21 @@ pub record OneAt (place : Place) (js : List Judgement) : Type 0 where
 abbrev pub MostOneAt : Place → List Judgement → Type 0
 MostOneAt place js = (js ≡ []) ⊎ OneAt place js
 
-rx_judged : (place : Place) (at : ℕ) (h : HoldView) (bytes : List ℕ) (u : Use) → MostOneAt place (rx_judgements place at h bytes u)
-rx_judged place at h bytes (used.Sealed n) = inl refl
-rx_judged place at h bytes (used.Spent killed) = inl refl
-rx_judged place at h bytes used.BadTag = inl refl
-rx_judged place at h bytes (used.Refused x) = inr (record { judgement = record { place = place; key = h.key; id = packet_id_of bytes; at = at; verdict = refused_as x }; is = refl; at = refl })
-rx_judged place at h bytes (used.Settled s) = inr (record { judgement = record { place = place; key = h.key; id = packet_id_of bytes; at = at; verdict = verdict.Accept }; is = refl; at = refl })
-
-use_judged : (place : Place) (at : ℕ) (d : Deed) (h : HoldView) (u : Use) → MostOneAt place (use_judgements place at d h u)
-use_judged place at (deed.Netlink n) h u = inl refl
-use_judged place at (deed.Tx packet) h u = inl refl
-use_judged place at (deed.Rx from bytes) h u = rx_judged place at h bytes u
-
-row_judged : (place : Place) (line : Line) (row : Row) → MostOneAt place (row_judgements place line row)
-row_judged place line (AtOnce a) = inl refl
-row_judged place line (Commanded c r taken os) = inl refl
-row_judged place line (Missed a r cause) = inl refl
-row_judged place line (Held a h m u key peer) = use_judged place line.at line.deed h u
+use_judged : (via : Addr → Addr) (place : Place) (at : ℕ) (d : Deed) (h : HoldView) (m : Material) (u : Use) → MostOneAt place (use_row via place at d h m u).judgements
+use_judged via place at (deed.Netlink n) h m u = inl refl
+use_judged via place at (deed.Tx packet) h m (used.Sealed n) = inl refl
+use_judged via place at (deed.Tx packet) h m (used.Spent killed) = inl refl
+use_judged via place at (deed.Tx packet) h m used.BadTag = inl refl
+use_judged via place at (deed.Tx packet) h m (used.Refused x) = inl refl
+use_judged via place at (deed.Tx packet) h m (used.Settled s) = inl refl
+use_judged via place at (deed.Rx from bytes) h m (used.Sealed n) = inl refl
+use_judged via place at (deed.Rx from bytes) h m (used.Spent killed) = inl refl
+use_judged via place at (deed.Rx from bytes) h m used.BadTag = inl refl
+use_judged via place at (deed.Rx from bytes) h m (used.Refused x) = inr (record { judgement = replay_of place at h bytes (refused_as x); is = refl; at = refl })
+use_judged via place at (deed.Rx from bytes) h m (used.Settled s) = inr (record { judgement = replay_of place at h bytes verdict.Accept; is = refl; at = refl })
 
 pub path_judged : (material : ℕ → Option Material) (via : Addr → Addr) (place : Place) (line : Line) (ss : List Step) (js : List Judgement) (a : Answer) → Path material via place line ss js a → MostOneAt place js
-path_judged material via place line ss js a path = subst (MostOneAt place) (sym path.judgements_are) (row_judged place line path.row)
+path_judged material via place line ss js a (by_at_once r) = inl r.judgements_are
+path_judged material via place line ss js a (by_command r) = inl r.judgements_are
+path_judged material via place line ss js a (by_miss r) = inl r.judgements_are
+path_judged material via place line ss js a (by_round r) = subst (MostOneAt place) (sym r.judgements_are) (use_judged via place line.at line.deed r.round.hold r.round.material r.round.made)

@@ -10,7 +10,8 @@ use Rattle.ov_model.specs.Events.{Event, Step, Judgement, steps_after, steps_of,
 use Rattle.ov_model.specs.Runs.{table_after}
 use Rattle.ov_model.specs.Keys.{key_of, spends, ids_under, ids_of}
 use Rattle.ov_model.specs.Replay.{ShardJudges}
-use Rattle.ov_model.specs.Legal.{LaneMeets, LinesRise}
+use Rattle.ov_model.specs.Legal.{LinesRise}
+use Rattle.ov_model.specs.Lanes.{LaneRuns}
 use Rattle.ov_model.proofs.Lanes.{judged_in}
 use Rattle.ov_model.proofs.Counting.{counted}
 use Rattle.ov_table.specs.Recorded.{Recorded}
@@ -67,7 +68,7 @@ pub record CountsAll (d : Serial) (answers : List Answer) (key : ℕ) : Type 0 w
 
 -- The first of lane 0's lines were run, each to its end, and answered so; nothing else happened.
 pub record Rested (d : Serial) (lines : List Line) (answers : List Answer) : Type 0 where
-  pub meets : LaneMeets (key_of d.table.journal) itself (steps_of d.table.journal) (histories d.shards) 0 lines answers [] []
+  pub meets : LaneRuns (key_of d.table.journal) itself (steps_of d.table.journal) (histories d.shards) 0 lines answers [] []
   pub within : AllByRecursion (λ s. s.entry.place.lane < 1) (steps_of d.table.journal)
   pub judged_within : AllByRecursion (AllByRecursion (λ r. r.place.lane < 1)) (histories d.shards)
   pub rise : AllByRecursion (LinesRise 0) (histories d.shards)
