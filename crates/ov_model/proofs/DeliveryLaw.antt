@@ -37,7 +37,7 @@ use Rattle.ov_model.specs.declared.report.LaneLog.{LaneLog}
 use Rattle.ov_model.specs.declared.report.Report.{Report}
 use Rattle.ov_model.specs.Ident.{peer_id, key_id}
 use Rattle.ov_model.specs.Tables.{Peer, Table, Material, empty_table, by_vpn}
-use Rattle.ov_model.specs.Step.{is_serial, settled_as, settle_dying, settle_not_live, settle_live, settle_at, settle, act_step}
+use Rattle.ov_model.specs.Step.{is_serial, settled_as, settle, act_step}
 use Rattle.ov_model.specs.Runs.{IsRun}
 use Rattle.ov_model.specs.Packets.{HeadKind, short, data_v1, control, data_v2, head_of, Kind, from_source, ping, no_source, kind_of, opened, packet_id_of}
 use Rattle.ov_model.specs.Events.{Step, Judgement, of, shown_in, steps_of, step_of, release_of, releases}
@@ -53,25 +53,9 @@ use Rattle.ov_model.proofs.Places.{entry_has, step_entry, judged_has, judged_fou
 
 -- ---- what settling replies
 
-settle_dying_reply : (t : Table) (now : ℕ) (s : Settled) (inner outer i : ℕ) (p : Option Peer) → (settle_dying t now s inner outer i p).reply ≡ reply.Settled s
-settle_dying_reply t now s inner outer i None = refl
-settle_dying_reply t now s inner outer i (Some p) = refl
-
-settle_not_live_reply : (t : Table) (now : ℕ) (s : Settled) (inner outer : ℕ) (i : Option ℕ) → (settle_not_live t now s inner outer i).reply ≡ reply.Settled s
-settle_not_live_reply t now s inner outer None = refl
-settle_not_live_reply t now s inner outer (Some i) = settle_dying_reply t now s inner outer i (slice_get t.dying i)
-
-settle_live_reply : (t : Table) (now : ℕ) (from : Option Transport) (s : Settled) (inner outer i : ℕ) (p : Option Peer) → (settle_live t now from s inner outer i p).reply ≡ reply.Settled s
-settle_live_reply t now from s inner outer i None = refl
-settle_live_reply t now from s inner outer i (Some p) = refl
-
-settle_at_reply : (t : Table) (now peer : ℕ) (from : Option Transport) (s : Settled) (inner outer : ℕ) (i : Option ℕ) → (settle_at t now peer from s inner outer i).reply ≡ reply.Settled s
-settle_at_reply t now peer from s inner outer None = settle_not_live_reply t now s inner outer (position (λ p. p.serial == peer) t.dying)
-settle_at_reply t now peer from s inner outer (Some i) = settle_live_reply t now from s inner outer i (slice_get t.live i)
-
 pub settle_reply : (t : Table) (now peer : ℕ) (from : Option Transport) (k : InnerKind) (inner outer : ℕ) → (act_step t now (act.Settle peer from k inner outer)).reply ≡ reply.Settled (settled_as peer k t.live)
 unfolding settle
-settle_reply t now peer from k inner outer = settle_at_reply t now peer from (settled_as peer k t.live) inner outer (position (λ p. p.serial == peer) t.live)
+settle_reply t now peer from k inner outer = refl
 
 -- What an entry that settles a packet replies, by the table before it.
 settled_so : (journal : List Entry) → IsRun journal → (n : ℕ) (e : Entry) (h : HoldView) (inner bytes : List ℕ) (s : Settled) → slice_get journal n ≡ Some e → e.call.act ≡ settle_act (λ b. b) h inner bytes → e.reply ≡ reply.Settled s

@@ -1,55 +1,20 @@
 -- A run without a dying peer or a retired key at its end let each of them go exactly once.
 use Rattle.std.proofs.Common.{ℕ, ◌≡◌, ◌+◌, ◌<◌, ◌≤◌, ◌↔◌, suc, List, [], ◌∷◌, refl, sym, ap, ◌∙◌, length, Bool, true, false, arith, ◌==◌, ◌||◌, inl, inr}
-use Rattle.std.specs.Prelude.{map, Option, Some, None, position, remove}
-use Rattle.std.specs.List.{list_any, position_or_len}
-use Rattle.std.proofs.lemmas.Bool.{cases_eq, cases_lt, eq-eqb, ne_eqb, lt-ltb}
+use Rattle.std.specs.Prelude.{map}
+use Rattle.std.proofs.lemmas.Bool.{cases_lt, eq-eqb}
 use Rattle.ov_model.specs.declared.act.Act.{Act}
 use Rattle.ov_model.specs.declared.act.Act.TheVariants as act
 use Rattle.ov_model.specs.declared.entry.Entry.{Entry}
 use Rattle.ov_model.specs.Tables.{Peer, Key, Table, empty_table, key_serials}
-use Rattle.ov_model.specs.Step.{Outcome, tx_look, rx_look, sent, settle, spend, released, released_at, key_released, key_released_at, command_step, act_step, step, may_act}
+use Rattle.ov_model.specs.Step.{Outcome, tx_look, rx_look, sent, settle, spend, released, key_released, command_step, act_step, step, is_there, is_retired, may_act}
 use Rattle.ov_model.specs.Runs.{Follows, IsRun, table_after, last_table}
 use Rattle.ov_model.specs.Events.{steps_after, steps_of}
 use Rattle.ov_model.specs.Path.{removed, spent_reply}
 use Rattle.ov_model.specs.Removals.{removed_in, AllReleased, released_by, released_in, key_released_by, keys_released_in, keys_taken_in, times, EachReleasedOnce}
 use Rattle.ov_model.proofs.Removing.{serials, Joins, command_joins, Keeps, tx_look_keeps, rx_look_keeps, sent_keeps, settle_keeps, Spends, spend_spends}
-use Rattle.ov_model.proofs.Noted.{removed_once}
-use Rattle.ov_model.proofs.Times.{times-append, times_first, times_distinct}
-use Rattle.ov_model.proofs.KeysTaken.{taken_once}
-
--- ---- what is let go is taken out of its list
-
-abbrev pub is_of : {X : Type 0} → (X → ℕ) → ℕ → X → Bool
-is_of f serial p = f p == serial
-
-pub later_any : (b c : Bool) → b ≡ false → (b || c) ≡ true → c ≡ true
-later_any b c first any = sym (ap (λ d. d || c) first) ∙ any
-
-found_within : {X : Type 0} (f : X → ℕ) (serial : ℕ) (ps : List X) → list_any (is_of f serial) ps ≡ true → position_or_len (is_of f serial) ps < length ps
-found_within f serial [] any = cc
-found_within f serial (p ∷ ps) any =
-    elim (cases_eq (f p) serial) [
-      | inl same ↦ rw (eq-eqb (f p) serial same) (omega arith)
-      | inr other ↦
-          let later : position_or_len (is_of f serial) ps < length ps = found_within f serial ps (later_any (f p == serial) _ (ne_eqb (f p) serial other) any) in
-          rw (ne_eqb (f p) serial other) (omega arith)
-    ]
-
-found_counts : {X : Type 0} (f : X → ℕ) (x serial : ℕ) (ps : List X) → list_any (is_of f serial) ps ≡ true → times x (map f (remove ps (position_or_len (is_of f serial) ps))) + times x (serial ∷ []) ≡ times x (map f ps)
-found_counts f x serial [] any = cc
-found_counts f x serial (p ∷ ps) any =
-    elim (cases_eq (f p) serial) [
-      | inl same ↦
-          let first : times x (f p ∷ map f ps) ≡ times x (serial ∷ []) + times x (map f ps) = rw same (times_first x serial (map f ps)) in
-          rw (eq-eqb (f p) serial same, first) (omega arith)
-      | inr other ↦
-          let rest : List ℕ = map f (remove ps (position_or_len (is_of f serial) ps)) in
-          let later : times x rest + times x (serial ∷ []) ≡ times x (map f ps) = found_counts f x serial ps (later_any (f p == serial) _ (ne_eqb (f p) serial other) any) in
-          let left : times x (f p ∷ rest) ≡ times x (f p ∷ []) + times x rest = times_first x (f p) rest in
-          let right : times x (f p ∷ map f ps) ≡ times x (f p ∷ []) + times x (map f ps) = times_first x (f p) (map f ps) in
-          let next : position_or_len (is_of f serial) (p ∷ ps) ≡ suc (position_or_len (is_of f serial) ps) = rw (ne_eqb (f p) serial other) (omega arith) in
-          rw (next, left, right) (omega arith)
-    ]
+use Rattle.ov_model.proofs.Firsts.{counts_without}
+use Rattle.ov_model.proofs.Times.{times-append}
+use Rattle.ov_model.proofs.KeysTaken.{removed_times, taken_once}
 
 -- ---- the balance of removals and releases
 
@@ -64,45 +29,17 @@ keeps_balance x t a o no_peer no_key keeps = record {
   keys = rw (no_key, keeps.retired, keeps.taken) refl;
 }
 
-released_at_keys : (x : ℕ) (t : Table) (now serial : ℕ) (i : Option ℕ) → times x (key_serials (released_at t now serial i).after.retired) + times x [] ≡ times x (key_serials t.retired) + times x (released_at t now serial i).taken
-released_at_keys x t now serial None = refl
-released_at_keys x t now serial (Some i) = refl
-
-released_at_removes_none : (t : Table) (now serial : ℕ) (i : Option ℕ) → removed (released_at t now serial i).reply ≡ []
-released_at_removes_none t now serial None = refl
-released_at_removes_none t now serial (Some i) = refl
-
-released_balance : (x : ℕ) (t : Table) (now serial : ℕ) → list_any (λ p. p.serial == serial) t.dying ≡ true → Balance x t (act.Released serial) (released t now serial)
+released_balance : (x : ℕ) (t : Table) (now serial : ℕ) → is_there serial t.dying ≡ true → Balance x t (act.Released serial) (released t now serial)
 unfolding released
 released_balance x t now serial any =
-    let f : Peer → ℕ = λ p. p.serial in
-    let place : position (λ p. p.serial == serial) t.dying ≡ Some (position_or_len (is_of f serial) t.dying) = rw (lt-ltb _ _ (found_within f serial t.dying any)) refl in
-    let kept : removed (released t now serial).reply ≡ [] = released_at_removes_none t now serial _ in
-    let out : times x (serials (released t now serial).after.dying) + times x (serial ∷ []) ≡ times x (serials t.dying) = rw place (found_counts f x serial t.dying any) in
-    record {
-      peers = rw kept (omega arith);
-      keys = released_at_keys x t now serial _;
-    }
+    let out : times x (serials (released t now serial).after.dying) + times x (serial ∷ []) ≡ times x (serials t.dying) = counts_without (λ (p : Peer). p.serial) x serial t.dying any in
+    record { peers = omega arith; keys = refl }
 
-key_released_at_peers : (x : ℕ) (t : Table) (now serial : ℕ) (i : Option ℕ) → times x (serials (key_released_at t now serial i).after.dying) + times x [] ≡ times x (serials t.dying) + times x (removed (key_released_at t now serial i).reply)
-key_released_at_peers x t now serial None = refl
-key_released_at_peers x t now serial (Some i) = refl
-
-key_released_at_takes_none : (t : Table) (now serial : ℕ) (i : Option ℕ) → (key_released_at t now serial i).taken ≡ []
-key_released_at_takes_none t now serial None = refl
-key_released_at_takes_none t now serial (Some i) = refl
-
-key_released_balance : (x : ℕ) (t : Table) (now serial : ℕ) → list_any (λ k. k.serial == serial) t.retired ≡ true → Balance x t (act.KeyReleased serial) (key_released t now serial)
+key_released_balance : (x : ℕ) (t : Table) (now serial : ℕ) → is_retired serial t.retired ≡ true → Balance x t (act.KeyReleased serial) (key_released t now serial)
 unfolding key_released
 key_released_balance x t now serial any =
-    let f : Key → ℕ = λ k. k.serial in
-    let place : position (λ k. k.serial == serial) t.retired ≡ Some (position_or_len (is_of f serial) t.retired) = rw (lt-ltb _ _ (found_within f serial t.retired any)) refl in
-    let kept : (key_released t now serial).taken ≡ [] = key_released_at_takes_none t now serial _ in
-    let out : times x (key_serials (key_released t now serial).after.retired) + times x (serial ∷ []) ≡ times x (key_serials t.retired) = rw place (found_counts f x serial t.retired any) in
-    record {
-      peers = key_released_at_peers x t now serial _;
-      keys = rw kept (omega arith);
-    }
+    let out : times x (key_serials (key_released t now serial).after.retired) + times x (serial ∷ []) ≡ times x (key_serials t.retired) = counts_without (λ (k : Key). k.serial) x serial t.retired any in
+    record { peers = refl; keys = omega arith }
 
 spent_removes_none : (killed : Bool) → removed (spent_reply killed) ≡ []
 spent_removes_none true = refl
@@ -176,7 +113,7 @@ all_released journal run =
     let keys_left : ℕ → ℕ = λ x. times x (key_serials (last_table journal).retired) in
     let balance : (x : ℕ) → freed x + left x ≡ 0 + gone x = λ x. run_balance x empty_table journal run in
     let keys_even : (x : ℕ) → keys_freed x + keys_left x ≡ 0 + taken x = λ x. keys_balance x empty_table journal run in
-    let once : (x : ℕ) → gone x ≤ 1 = λ x. times_distinct x (removed_in journal) (removed_once empty_table journal run tt tt) in
+    let once : (x : ℕ) → gone x ≤ 1 = λ x. removed_times x journal run in
     let keys_once : (x : ℕ) → taken x ≤ 1 = λ x. taken_once x journal run in (
       λ (none : AllReleased journal). record {
         peers = once_each gone freed left balance once (λ x. rw none.peers refl);

@@ -1,9 +1,11 @@
--- A key is made once and leaves its slot at most once in a run.
-use Rattle.std.proofs.Common.{ℕ, ◌≡◌, ◌+◌, ◌<◌, ◌≤◌, zero, suc, List, [], ◌∷◌, ◌++◌, refl, ap, ◌∙◌, append_assoc, Bool, true, false, arith, append-nil, if◌then◌else◌, ◌==◌, ◌&&◌, nat_le, inl, inr, ◌⊎◌}
-use Rattle.std.specs.Prelude.{Option, Some, None, is_none, is_some, position, remove, slice_get, slice_set}
-use Rattle.std.specs.List.{list_any}
+-- Of each serial of a peer or of a key: what a step makes, what it takes out and what is left. None is made
+-- twice in a run, and none leaves twice.
+use Rattle.std.proofs.Common.{ℕ, ◌≡◌, ◌+◌, ◌<◌, ◌≤◌, List, [], ◌∷◌, ◌++◌, refl, ap, ◌∙◌, append_assoc, arith, append-nil, inl, inr, ◌⊎◌}
+use Rattle.std.specs.Prelude.{map, find, Option, Some, None}
 use Rattle.std.proofs.lemmas.Bool.{cases_eq, eq-eqb, ne_eqb}
+use Rattle.std.proofs.lemmas.List.{map-append}
 use Rattle.ov_base.specs.declared.address.Transport.{Transport}
+use Rattle.ov_base.specs.Sums.{total}
 use Rattle.ov_model.specs.declared.ident.PeerId.{PeerId}
 use Rattle.ov_model.specs.declared.ident.KeyId.{KeyId}
 use Rattle.ov_model.specs.declared.command.Attrs.{Attrs}
@@ -14,26 +16,24 @@ use Rattle.ov_model.specs.declared.command.Slot.TheVariants.{Primary, Secondary}
 use Rattle.ov_model.specs.declared.command.Command.TheVariants as command
 use Rattle.ov_model.specs.declared.act.Act.{Act}
 use Rattle.ov_model.specs.declared.act.Act.TheVariants as act
+use Rattle.ov_model.specs.declared.act.Call.{Call}
 use Rattle.ov_model.specs.declared.entry.Entry.{Entry}
 use Rattle.ov_model.specs.declared.reply.Reply.{Reply}
 use Rattle.ov_model.specs.declared.reply.Reply.TheVariants as reply
 use Rattle.ov_model.specs.declared.reply.Errno.{Errno}
-use Rattle.ov_model.specs.declared.reply.Errno.TheVariants.{NoEntry, Exists, Invalid, NoSpace}
+use Rattle.ov_model.specs.declared.reply.Errno.TheVariants.{NoEntry, Invalid}
 use Rattle.ov_model.specs.declared.reply.Settled.{Settled}
-use Rattle.ov_model.specs.Tables.{Peer, Key, Slots, Table, empty_table, in_slot, with_slot, key_if_any, keys_in, key_serials, by_key, without_key, by_id, by_remote, by_vpn, by_key_id, shares_vpn}
-use Rattle.ov_model.specs.Step.{Outcome, replied, refused, peer_of, peer_new, peer_new_at, peer_new_with, peer_get, peer_get_of, remove_peer, removed_at, removed_found, key_of_conf, key_made, key_new_found, key_new_place, key_new, key_found, tx_found, tx_look, rx_peer, rx_found, rx_look, sent_peer, sent_dying, sent_not_live, sent_live, sent_at, sent, received_peer, floated, settled_peer, settled_as, settle_dying, settle_not_live, settle_live, settle_at, settle, spent_key, spent_found, spent_at, spend, released, released_at, key_released, key_released_at, act_step, step}
+use Rattle.ov_model.specs.Tables.{Peer, Key, Slots, Table, empty_table, change_first, without_first, has_id, has_serial, serials_of, in_slot, with_slot, key_if_any, keys_in, keys_of, key_serials, by_id, by_serial, by_vpn, by_key_id, by_key, without_key}
+use Rattle.ov_model.specs.Step.{Outcome, replied, refused, where_found, change_peer, peer_of, peer_new_checks, peer_made, peer_new, peer_new_at, peer_get, removals, remove_peer, key_of_conf, with_key, key_new_checks, key_made, key_new, hold_of, key_found, tx_look, rx_peer, rx_look, sent_peer, sent, settled_as, settle, spent_key, spend, released, key_released, act_step, step}
 use Rattle.ov_model.specs.Runs.{Follows, IsRun, table_after}
 use Rattle.ov_model.specs.Events.{steps_after, steps_of}
-use Rattle.ov_model.specs.Removals.{times, keys_taken_in}
-use Rattle.ov_model.specs.Lifetime.{key_made_by}
-use Rattle.ov_model.proofs.Shapes.{settle_kept}
+use Rattle.ov_model.specs.Path.{removed}
+use Rattle.ov_model.specs.Removals.{times, removed_in, keys_taken_in}
+use Rattle.ov_model.specs.Lifetime.{peer_made_by, key_made_by}
+use Rattle.ov_model.proofs.Firsts.{map_changed, total_without, total_changed, total_kept, times_total}
+use Rattle.ov_model.proofs.Shapes.{Name, Kept, settle_kept}
+use Rattle.ov_model.proofs.StepCases.{unless_has, found_has, changed_has}
 use Rattle.ov_model.proofs.Times.{times-append, times_first}
-
--- ---- the keys that a run made
-
-abbrev pub keys_made_in : List Entry → List ℕ
-keys_made_in [] = []
-keys_made_in (e ∷ es) = key_made_by e.call.act e.reply ++ keys_made_in es
 
 -- ---- the keys in the slots of some peers
 
@@ -51,37 +51,14 @@ peer_keys p = key_serials (keys_in p.slots)
 pub slots_first : (x : ℕ) (p : Peer) (ps : List Peer) → times x (slot_serials (p ∷ ps)) ≡ times x (peer_keys p) + times x (slot_serials ps)
 slots_first x p ps = times-append x (peer_keys p) (slot_serials ps)
 
-slots_remove : (x : ℕ) (ps : List Peer) (i : ℕ) (p : Peer) → slice_get ps i ≡ Some p → times x (slot_serials (remove ps i)) + times x (peer_keys p) ≡ times x (slot_serials ps)
-slots_remove x [] i p at = cc
-slots_remove x (q ∷ ps) zero p at =
-    let its : q ≡ p = cc in
-    let first : times x (slot_serials (q ∷ ps)) ≡ times x (peer_keys p) + times x (slot_serials ps) = rw (← its) (slots_first x q ps) in
-    omega arith
-slots_remove x (q ∷ ps) (suc i) p at =
-    let later : times x (slot_serials (remove ps i)) + times x (peer_keys p) ≡ times x (slot_serials ps) = slots_remove x ps i p at in
-    let left : times x (slot_serials (q ∷ remove ps i)) ≡ times x (peer_keys q) + times x (slot_serials (remove ps i)) = slots_first x q (remove ps i) in
-    let right : times x (slot_serials (q ∷ ps)) ≡ times x (peer_keys q) + times x (slot_serials ps) = slots_first x q ps in
-    rw (left, right) (omega arith)
+slots_total : (x : ℕ) (ps : List Peer) → times x (slot_serials ps) ≡ total (λ p. times x (peer_keys p)) ps
+slots_total x [] = refl
+slots_total x (p ∷ ps) = slots_first x p ps ∙ ap (λ n. times x (peer_keys p) + n) (slots_total x ps)
 
-slots_set : (x : ℕ) (ps : List Peer) (i : ℕ) (p r : Peer) → slice_get ps i ≡ Some p → times x (slot_serials (slice_set ps i r)) + times x (peer_keys p) ≡ times x (slot_serials ps) + times x (peer_keys r)
-slots_set x [] i p r at = cc
-slots_set x (q ∷ ps) zero p r at =
-    let its : q ≡ p = cc in
-    let first : times x (slot_serials (q ∷ ps)) ≡ times x (peer_keys p) + times x (slot_serials ps) = rw (← its) (slots_first x q ps) in
-    let new : times x (slot_serials (r ∷ ps)) ≡ times x (peer_keys r) + times x (slot_serials ps) = slots_first x r ps in
-    rw (first, new) (omega arith)
-slots_set x (q ∷ ps) (suc i) p r at =
-    let later : times x (slot_serials (slice_set ps i r)) + times x (peer_keys p) ≡ times x (slot_serials ps) + times x (peer_keys r) = slots_set x ps i p r at in
-    let left : times x (slot_serials (q ∷ slice_set ps i r)) ≡ times x (peer_keys q) + times x (slot_serials (slice_set ps i r)) = slots_first x q (slice_set ps i r) in
-    let right : times x (slot_serials (q ∷ ps)) ≡ times x (peer_keys q) + times x (slot_serials ps) = slots_first x q ps in
-    rw (left, right) (omega arith)
-
--- A peer that is changed in place and keeps its slots.
-slots_same : (x : ℕ) (ps : List Peer) (i : ℕ) (p r : Peer) → slice_get ps i ≡ Some p → r.slots ≡ p.slots → times x (slot_serials (slice_set ps i r)) ≡ times x (slot_serials ps)
-slots_same x ps i p r at same =
-    let set : times x (slot_serials (slice_set ps i r)) + times x (peer_keys p) ≡ times x (slot_serials ps) + times x (peer_keys r) = slots_set x ps i p r at in
-    let keys : times x (peer_keys r) ≡ times x (peer_keys p) = ap (λ s. times x (key_serials (keys_in s))) same in
-    omega arith
+-- The keys of some peers have the serials in their slots.
+keys_serials : (ps : List Peer) → key_serials (keys_of ps) ≡ slot_serials ps
+keys_serials [] = refl
+keys_serials (p ∷ ps) = map-append (λ (k : Key). k.serial) (keys_in p.slots) (keys_of ps) ∙ ap (λ ns. peer_keys p ++ ns) (keys_serials ps)
 
 -- A key that is put into a slot, and the one that stood there.
 put_counts : (x : ℕ) (slot : Slot) (k : Key) (a b : Option Key) →
@@ -120,216 +97,245 @@ out_counts x key k (Some a) (Some b) found =
       ]
     ]
 
+-- What stands in a slot is a part of all.
+slot_part : (x : ℕ) (slot : Slot) (a b : Option Key) →
+    let s : Slots = record { primary = a; secondary = b } in
+    times x (key_serials (key_if_any (in_slot slot s))) ≤ times x (key_serials (keys_in s))
+slot_part x Primary None b = omega arith
+slot_part x Primary (Some a) b = rw (times_first x a.serial (key_serials (key_if_any b))) (omega arith)
+slot_part x Secondary None b = omega arith
+slot_part x Secondary (Some a) b = rw (times_first x a.serial (key_serials (key_if_any b))) (omega arith)
+
 -- ---- every step
 
--- Of each serial: what stood in slots and was made is what stands there and was taken out.
+-- A step makes none, or the next.
+abbrev pub MakesNext : List ℕ → (before after : ℕ) → Type 0
+MakesNext new before after = ((new ≡ []) × (after ≡ before)) ⊎ ((new ≡ before ∷ []) × (after ≡ before + 1))
+
+-- Of each serial: the live peers that were and the new one are those that are left and the removed ones;
+-- and the keys in slots and the new one are those that are left and those that were taken out.
 pub record Turns (x : ℕ) (t : Table) (a : Act) (o : Outcome) : Type 0 where
+  pub peers : times x (serials_of o.after.live) + times x (removed o.reply) ≡ times x (serials_of t.live) + times x (peer_made_by a o.reply)
+  pub born : MakesNext (peer_made_by a o.reply) t.made o.after.made
+  pub removed_live : times x (removed o.reply) ≤ times x (serials_of t.live)
   pub slots : times x (slot_serials o.after.live) + times x o.taken ≡ times x (slot_serials t.live) + times x (key_made_by a o.reply)
-  pub made : ((key_made_by a o.reply ≡ []) × (o.after.keys_made ≡ t.keys_made)) ⊎ ((key_made_by a o.reply ≡ t.keys_made ∷ []) × (o.after.keys_made ≡ t.keys_made + 1))
+  pub made : MakesNext (key_made_by a o.reply) t.keys_made o.after.keys_made
+  pub taken_live : times x o.taken ≤ times x (slot_serials t.live)
 
--- It changes no slot and makes no key.
-same_slots : (x : ℕ) (t : Table) (a : Act) (o : Outcome) → times x (slot_serials o.after.live) ≡ times x (slot_serials t.live) → o.taken ≡ [] → key_made_by a o.reply ≡ [] → o.after.keys_made ≡ t.keys_made → Turns x t a o
-same_slots x t a o slots taken none made = record { slots = rw (slots, taken, none) refl; made = inl (none, made) }
+-- It makes nothing and takes nothing out.
+still : (x : ℕ) (t : Table) (a : Act) (o : Outcome) → serials_of o.after.live ≡ serials_of t.live → times x (slot_serials o.after.live) ≡ times x (slot_serials t.live) → removed o.reply ≡ [] → o.taken ≡ [] → peer_made_by a o.reply ≡ [] → key_made_by a o.reply ≡ [] → o.after.made ≡ t.made → o.after.keys_made ≡ t.keys_made → Turns x t a o
+still x t a o live slots none_removed none_taken no_peer no_key made keys_made = record {
+  peers = rw (live, none_removed, no_peer) refl;
+  born = inl (no_peer, made);
+  removed_live = rw none_removed (omega arith);
+  slots = rw (slots, none_taken, no_key) refl;
+  made = inl (no_key, keys_made);
+  taken_live = rw none_taken (omega arith);
+}
 
-turns_if : (x : ℕ) (t : Table) (a : Act) (b : Bool) (o u : Outcome) → Turns x t a o → Turns x t a u → Turns x t a (if b then o else u)
-turns_if x t a true o u h k = h
-turns_if x t a false o u h k = k
+plain : (x : ℕ) (t : Table) (a : Act) (now : ℕ) (r : Reply) → removed r ≡ [] → peer_made_by a r ≡ [] → key_made_by a r ≡ [] → Turns x t a (replied t now r)
+plain x t a now r none no_peer no_key = still x t a (replied t now r) refl refl none refl no_peer no_key refl refl
 
-refused_turns : (x : ℕ) (t : Table) (a : Act) (now : ℕ) (e : Errno) → key_made_by a (reply.Refused e) ≡ [] → Turns x t a (refused t now e)
-refused_turns x t a now e none = same_slots x t a (refused t now e) refl refl none refl
-
-new_at_turns : (x : ℕ) (t : Table) (now : ℕ) (a : Attrs) (remote : Transport) → Turns x t (act.Do (command.PeerNew a)) (peer_new_at t now a remote)
-new_at_turns x t now a remote =
+new_turns : (x : ℕ) (t : Table) (now : ℕ) (a : Attrs) (remote : Transport) → Turns x t (act.Do (command.PeerNew a)) (peer_new_at t now a remote)
+new_turns x t now a remote =
     let new : Act = act.Do (command.PeerNew a) in
-    let made : Outcome = record { after = record t { live = t.live ++ peer_of t.made now a remote ∷ []; made = t.made + 1; moment = now }; reply = reply.Made t.made; taken = []; notes = [] } in
-    let bare : slot_serials (t.live ++ peer_of t.made now a remote ∷ []) ≡ slot_serials t.live = slots_append t.live (peer_of t.made now a remote ∷ []) ∙ append-nil (slot_serials t.live) in
-    let turns : Turns x t new made = same_slots x t new made (ap (times x) bare) refl refl refl in
-    turns_if x t new (is_none a.vpn4 && is_none a.vpn6) (refused t now Invalid) _ (refused_turns x t new now Invalid refl)
-    (turns_if x t new (is_some (by_id a.id t.live)) (refused t now Exists) _ (refused_turns x t new now Exists refl)
-    (turns_if x t new (list_any (shares_vpn a) t.live) (refused t now Exists) _ (refused_turns x t new now Exists refl)
-    (turns_if x t new (is_some (by_remote remote t.live)) (refused t now Exists) _ (refused_turns x t new now Exists refl)
-    (turns_if x t new (nat_le 4096 t.made) (refused t now NoSpace) made (refused_turns x t new now NoSpace refl) turns))))
+    let p : Peer = peer_of t.made now a remote in
+    let bare : slot_serials (t.live ++ p ∷ []) ≡ slot_serials t.live = slots_append t.live (p ∷ []) ∙ append-nil (slot_serials t.live) in
+    let more : times x (serials_of (t.live ++ p ∷ [])) ≡ times x (serials_of t.live) + times x (t.made ∷ []) = ap (times x) (map-append (λ (q : Peer). q.serial) t.live (p ∷ [])) ∙ times-append x (serials_of t.live) (t.made ∷ []) in
+    unless_has (Turns x t new) t now (peer_new_checks t a remote) (peer_made t now a remote) (λ e. plain x t new now (reply.Refused e) refl refl refl) (record {
+      peers = rw more (omega arith);
+      born = inr (refl, refl);
+      removed_live = omega arith;
+      slots = rw bare refl;
+      made = inl (refl, refl);
+      taken_live = omega arith;
+    })
 
-new_turns : (x : ℕ) (t : Table) (now : ℕ) (a : Attrs) (remote : Option Transport) → Turns x t (act.Do (command.PeerNew a)) (peer_new_with t now a remote)
-new_turns x t now a None = refused_turns x t (act.Do (command.PeerNew a)) now Invalid refl
-new_turns x t now a (Some remote) = new_at_turns x t now a remote
+-- The removal of any live peers, which leaves the others.
+pub removals_turns : (x : ℕ) (t : Table) (a : Act) (now : ℕ) (reason : Reason) (gone left : List Peer) (r : Reply) → removed r ≡ serials_of gone → peer_made_by a r ≡ [] → key_made_by a r ≡ [] → ((f : Peer → ℕ) → total f left + total f gone ≡ total f t.live) → Turns x t a (removals t now reason gone left r)
+removals_turns x t a now reason gone left r are no_peer no_key parts =
+    let serial : Peer → ℕ = λ p. p.serial in
+    let lives : times x (serials_of left) + times x (serials_of gone) ≡ times x (serials_of t.live) = rw (times_total serial x left, times_total serial x gone, times_total serial x t.live) (parts (λ p. times x (p.serial ∷ []))) in
+    let slots : times x (slot_serials left) + times x (slot_serials gone) ≡ times x (slot_serials t.live) = rw (slots_total x left, slots_total x gone, slots_total x t.live) (parts (λ p. times x (peer_keys p))) in
+    record {
+      peers = rw (are, no_peer) (omega arith);
+      born = inl (no_peer, refl);
+      removed_live = rw are (omega arith);
+      slots = rw (keys_serials gone, no_key) (omega arith);
+      made = inl (no_key, refl);
+      taken_live = rw (keys_serials gone) (omega arith);
+    }
 
-get_turns : (x : ℕ) (t : Table) (id : PeerId) (now : ℕ) (p : Option Peer) → Turns x t (act.Do (command.PeerGet id)) (peer_get_of t now p)
-get_turns x t id now None = same_slots x t (act.Do (command.PeerGet id)) (refused t now NoEntry) refl refl refl refl
-get_turns x t id now (Some p) = same_slots x t (act.Do (command.PeerGet id)) (peer_get_of t now (Some p)) refl refl refl refl
+remove_turns : (x : ℕ) (t : Table) (now : ℕ) (id : PeerId) (reason : Reason) → Turns x t (act.Do (command.Remove id reason)) (remove_peer t now id reason)
+unfolding remove_peer
+remove_turns x t now id reason =
+    let a : Act = act.Do (command.Remove id reason) in
+    found_has (Turns x t a) t now _ (by_id id t.live) _ (plain x t a now (reply.Refused NoEntry) refl refl refl)
+    (λ p found. removals_turns x t a now reason (p ∷ []) (without_first (has_id id) t.live) (reply.Removed (p.serial ∷ [])) refl refl refl
+    (λ f. let out : total f (without_first (has_id id) t.live) + f p ≡ total f t.live = total_without f (has_id id) t.live p found in omega arith))
 
-found_turns : (x : ℕ) (t : Table) (now : ℕ) (id : PeerId) (reason : Reason) (i : ℕ) (p : Option Peer) → slice_get t.live i ≡ p → Turns x t (act.Do (command.Remove id reason)) (removed_found t now reason i p)
-found_turns x t now id reason i None at = refused_turns x t (act.Do (command.Remove id reason)) now NoEntry refl
-found_turns x t now id reason i (Some p) at =
-    let out : times x (slot_serials (remove t.live i)) + times x (peer_keys p) ≡ times x (slot_serials t.live) = slots_remove x t.live i p at in
-    record { slots = omega arith; made = inl (refl, refl) }
-
-at_turns : (x : ℕ) (t : Table) (now : ℕ) (id : PeerId) (reason : Reason) (i : Option ℕ) → Turns x t (act.Do (command.Remove id reason)) (removed_at t now reason i)
-at_turns x t now id reason None = refused_turns x t (act.Do (command.Remove id reason)) now NoEntry refl
-at_turns x t now id reason (Some i) = found_turns x t now id reason i (slice_get t.live i) refl
-
-key_made_turns : (x : ℕ) (t : Table) (now : ℕ) (c : KeyConf) (i : ℕ) (p : Peer) → slice_get t.live i ≡ Some p → Turns x t (act.Do (command.KeyNew c)) (key_made t now c i p)
-key_made_turns x t now c i p at =
+key_made_turns : (x : ℕ) (t : Table) (now : ℕ) (c : KeyConf) (p : Peer) → by_id c.peer t.live ≡ Some p → Turns x t (act.Do (command.KeyNew c)) (key_made t now c p)
+key_made_turns x t now c p found =
     let k : Key = key_of_conf t.keys_made c in
-    let new : Peer = record p { slots = with_slot c.slot (Some k) p.slots } in
-    let set : times x (slot_serials (slice_set t.live i new)) + times x (peer_keys p) ≡ times x (slot_serials t.live) + times x (peer_keys new) = slots_set x t.live i p new at in
-    let put : times x (peer_keys new) + times x (key_serials (key_if_any (in_slot c.slot p.slots))) ≡ times x (peer_keys p) + times x (t.keys_made ∷ []) = put_counts x c.slot k p.slots.primary p.slots.secondary in
-    record { slots = omega arith; made = inr (refl, refl) }
+    let new : List Peer = (key_made t now c p).after.live in
+    let set : times x (slot_serials new) + times x (peer_keys p) ≡ times x (slot_serials t.live) + times x (peer_keys (with_key c.slot k p)) =
+    rw (slots_total x new, slots_total x t.live) (total_changed (λ q. times x (peer_keys q)) (has_id c.peer) (with_key c.slot k) t.live p found) in
+    let put : times x (peer_keys (with_key c.slot k p)) + times x (key_serials (key_if_any (in_slot c.slot p.slots))) ≡ times x (peer_keys p) + times x (t.keys_made ∷ []) = put_counts x c.slot k p.slots.primary p.slots.secondary in
+    let whole : times x (peer_keys p) ≤ times x (slot_serials t.live) = rw (slots_total x t.live) (let out : total (λ q. times x (peer_keys q)) (without_first (has_id c.peer) t.live) + times x (peer_keys p) ≡ total (λ q. times x (peer_keys q)) t.live = total_without (λ q. times x (peer_keys q)) (has_id c.peer) t.live p found in omega arith) in
+    record {
+      peers = rw (map_changed (λ (q : Peer). q.serial) (has_id c.peer) (with_key c.slot k) t.live (λ q. refl)) refl;
+      born = inl (refl, refl);
+      removed_live = omega arith;
+      slots = omega arith;
+      made = inr (refl, refl);
+      taken_live = (let own : times x (key_serials (key_if_any (in_slot c.slot p.slots))) ≤ times x (peer_keys p) = slot_part x c.slot p.slots.primary p.slots.secondary in omega arith);
+    }
 
-key_found_turns : (x : ℕ) (t : Table) (now : ℕ) (c : KeyConf) (i : ℕ) (p : Option Peer) → slice_get t.live i ≡ p → Turns x t (act.Do (command.KeyNew c)) (key_new_found t now c i p)
-key_found_turns x t now c i None at = refused_turns x t (act.Do (command.KeyNew c)) now NoEntry refl
-key_found_turns x t now c i (Some p) at = turns_if x t (act.Do (command.KeyNew c)) (nat_le 65536 t.keys_made) (refused t now NoSpace) (key_made t now c i p) (refused_turns x t (act.Do (command.KeyNew c)) now NoSpace refl) (key_made_turns x t now c i p at)
+key_new_turns : (x : ℕ) (t : Table) (now : ℕ) (c : KeyConf) → Turns x t (act.Do (command.KeyNew c)) (key_new t now c)
+unfolding key_new
+key_new_turns x t now c =
+    let a : Act = act.Do (command.KeyNew c) in
+    found_has (Turns x t a) t now _ (by_id c.peer t.live) _ (plain x t a now (reply.Refused NoEntry) refl refl refl)
+    (λ p found. unless_has (Turns x t a) t now (key_new_checks t) (key_made t now c p) (λ e. plain x t a now (reply.Refused e) refl refl refl) (key_made_turns x t now c p found))
 
-key_place_turns : (x : ℕ) (t : Table) (now : ℕ) (c : KeyConf) (i : Option ℕ) → Turns x t (act.Do (command.KeyNew c)) (key_new_place t now c i)
-key_place_turns x t now c None = refused_turns x t (act.Do (command.KeyNew c)) now NoEntry refl
-key_place_turns x t now c (Some i) = key_found_turns x t now c i (slice_get t.live i) refl
+-- Acts that aren't commands make no peer and no key.
+abbrev MakesNone : Act → Type 0
+MakesNone a = (r : Reply) → (peer_made_by a r ≡ []) × (key_made_by a r ≡ [])
 
--- Acts that aren't commands make no key.
-abbrev Makes : Act → Type 0
-Makes a = (r : Reply) → key_made_by a r ≡ []
+look_turns : (x : ℕ) (t : Table) (a : Act) (now : ℕ) (p : Option Peer) (key : Peer → Option Key) → MakesNone a → Turns x t a (where_found t now reply.NoPeer p (λ q. key_found t now q (key q)))
+look_turns x t a now p key none =
+    let as_is : (r : Reply) → removed r ≡ [] → Turns x t a (replied t now r) = λ r gone. plain x t a now r gone (none r).0 (none r).1 in
+    found_has (Turns x t a) t now _ p _ (as_is reply.NoPeer refl)
+    (λ q found. found_has (Turns x t a) t now _ (key q) _ (as_is reply.NoKey refl) (λ k has. as_is (reply.Hold (hold_of q k)) refl))
 
-plain_turns : (x : ℕ) (t : Table) (a : Act) (now : ℕ) (r : Reply) → Makes a → Turns x t a (replied t now r)
-plain_turns x t a now r none = same_slots x t a (replied t now r) refl refl (none r) refl
+changed_turns : (x : ℕ) (t : Table) (a : Act) (now serial : ℕ) (live dying : Peer → Peer) (r : Reply) → ((p : Peer) → Kept p (live p)) → removed r ≡ [] → MakesNone a → Turns x t a (replied (change_peer serial live dying t) now r)
+changed_turns x t a now serial live dying r keeps gone none =
+    let slots : times x (slot_serials (change_first (has_serial serial) live t.live)) ≡ times x (slot_serials t.live) =
+    rw (slots_total x (change_first (has_serial serial) live t.live), slots_total x t.live) (total_kept (λ p. times x (peer_keys p)) (has_serial serial) live t.live (λ p. ap (λ s. times x (key_serials (keys_in s))) (keeps p).slots)) in
+    changed_has (λ u. Turns x t a (replied u now r)) t serial live dying
+    (still x t a _ (map_changed (λ (p : Peer). p.serial) (has_serial serial) live t.live (λ p. ap (λ (n : Name). n.serial) (keeps p).name)) slots gone refl (none r).0 (none r).1 refl refl)
+    (still x t a _ refl refl gone refl (none r).0 (none r).1 refl refl)
 
-look_turns : (x : ℕ) (t : Table) (a : Act) (now : ℕ) (p : Peer) (k : Option Key) → Makes a → Turns x t a (key_found t now p k)
-look_turns x t a now p None none = plain_turns x t a now reply.NoKey none
-look_turns x t a now p (Some k) none = plain_turns x t a now _ none
-
-tx_turns : (x : ℕ) (t : Table) (a : Act) (now : ℕ) (p : Option Peer) → Makes a → Turns x t a (tx_found t now p)
-tx_turns x t a now None none = plain_turns x t a now reply.NoPeer none
-tx_turns x t a now (Some p) none = look_turns x t a now p p.slots.primary none
-
-rx_turns : (x : ℕ) (t : Table) (a : Act) (now : ℕ) (id : KeyId) (p : Option Peer) → Makes a → Turns x t a (rx_found t now id p)
-rx_turns x t a now id None none = plain_turns x t a now reply.NoPeer none
-rx_turns x t a now id (Some p) none = look_turns x t a now p (by_key_id id p.slots) none
-
-sent_dying_turns : (x : ℕ) (t : Table) (a : Act) (now inner outer : ℕ) (ping : Bool) (i : ℕ) (p : Option Peer) → Makes a → Turns x t a (sent_dying t now inner outer ping i p)
-sent_dying_turns x t a now inner outer ping i None none = plain_turns x t a now reply.Done none
-sent_dying_turns x t a now inner outer ping i (Some p) none = same_slots x t a (sent_dying t now inner outer ping i (Some p)) refl refl (none reply.Done) refl
-
-sent_not_live_turns : (x : ℕ) (t : Table) (a : Act) (now inner outer : ℕ) (ping : Bool) (i : Option ℕ) → Makes a → Turns x t a (sent_not_live t now inner outer ping i)
-sent_not_live_turns x t a now inner outer ping None none = plain_turns x t a now reply.Done none
-sent_not_live_turns x t a now inner outer ping (Some i) none = sent_dying_turns x t a now inner outer ping i (slice_get t.dying i) none
-
-sent_live_turns : (x : ℕ) (t : Table) (a : Act) (now inner outer : ℕ) (ping : Bool) (i : ℕ) (p : Option Peer) → slice_get t.live i ≡ p → Makes a → Turns x t a (sent_live t now inner outer ping i p)
-sent_live_turns x t a now inner outer ping i None at none = plain_turns x t a now reply.Done none
-sent_live_turns x t a now inner outer ping i (Some p) at none = same_slots x t a (sent_live t now inner outer ping i (Some p)) (slots_same x t.live i p (sent_peer now inner outer ping p) at refl) refl (none reply.Done) refl
-
-sent_turns : (x : ℕ) (t : Table) (a : Act) (now peer inner outer : ℕ) (ping : Bool) (i : Option ℕ) → Makes a → Turns x t a (sent_at t now peer inner outer ping i)
-sent_turns x t a now peer inner outer ping None none = sent_not_live_turns x t a now inner outer ping (position (λ p. p.serial == peer) t.dying) none
-sent_turns x t a now peer inner outer ping (Some i) none = sent_live_turns x t a now inner outer ping i (slice_get t.live i) refl none
-
-settle_dying_turns : (x : ℕ) (t : Table) (a : Act) (now : ℕ) (s : Settled) (inner outer i : ℕ) (p : Option Peer) → Makes a → Turns x t a (settle_dying t now s inner outer i p)
-settle_dying_turns x t a now s inner outer i None none = plain_turns x t a now (reply.Settled s) none
-settle_dying_turns x t a now s inner outer i (Some p) none = same_slots x t a (settle_dying t now s inner outer i (Some p)) refl refl (none (reply.Settled s)) refl
-
-settle_not_live_turns : (x : ℕ) (t : Table) (a : Act) (now : ℕ) (s : Settled) (inner outer : ℕ) (i : Option ℕ) → Makes a → Turns x t a (settle_not_live t now s inner outer i)
-settle_not_live_turns x t a now s inner outer None none = plain_turns x t a now (reply.Settled s) none
-settle_not_live_turns x t a now s inner outer (Some i) none = settle_dying_turns x t a now s inner outer i (slice_get t.dying i) none
-
-settle_live_turns : (x : ℕ) (t : Table) (a : Act) (now : ℕ) (from : Option Transport) (s : Settled) (inner outer i : ℕ) (p : Option Peer) → slice_get t.live i ≡ p → Makes a → Turns x t a (settle_live t now from s inner outer i p)
-settle_live_turns x t a now from s inner outer i None at none = plain_turns x t a now (reply.Settled s) none
-settle_live_turns x t a now from s inner outer i (Some p) at none = same_slots x t a (settle_live t now from s inner outer i (Some p)) (slots_same x t.live i p (settled_peer s inner (floated t.live from (received_peer now outer p))) at (settle_kept now t.live from s inner outer p).slots) refl (none (reply.Settled s)) refl
-
-settle_turns : (x : ℕ) (t : Table) (a : Act) (now peer : ℕ) (from : Option Transport) (s : Settled) (inner outer : ℕ) (i : Option ℕ) → Makes a → Turns x t a (settle_at t now peer from s inner outer i)
-settle_turns x t a now peer from s inner outer None none = settle_not_live_turns x t a now s inner outer (position (λ p. p.serial == peer) t.dying) none
-settle_turns x t a now peer from s inner outer (Some i) none = settle_live_turns x t a now from s inner outer i (slice_get t.live i) refl none
-
-spent_key_turns : (x : ℕ) (t : Table) (a : Act) (now i : ℕ) (p : Peer) (key : ℕ) (k : Option Key) → slice_get t.live i ≡ Some p → by_key key p.slots ≡ k → Makes a → Turns x t a (spent_key t now i p key k)
-spent_key_turns x t a now i p key None at found none = plain_turns x t a now reply.AlreadyGone none
-spent_key_turns x t a now i p key (Some k) at found none =
-    let new : Peer = record p { slots = without_key key p.slots } in
-    let set : times x (slot_serials (slice_set t.live i new)) + times x (peer_keys p) ≡ times x (slot_serials t.live) + times x (peer_keys new) = slots_set x t.live i p new at in
-    let out : times x (peer_keys new) + times x (key ∷ []) ≡ times x (peer_keys p) = out_counts x key k p.slots.primary p.slots.secondary found in
-    record { slots = rw (none reply.Killed) (omega arith); made = inl (none reply.Killed, refl) }
-
-spent_found_turns : (x : ℕ) (t : Table) (a : Act) (now i key : ℕ) (p : Option Peer) → slice_get t.live i ≡ p → Makes a → Turns x t a (spent_found t now i key p)
-spent_found_turns x t a now i key None at none = plain_turns x t a now reply.AlreadyGone none
-spent_found_turns x t a now i key (Some p) at none = spent_key_turns x t a now i p key (by_key key p.slots) at refl none
-
-spent_turns : (x : ℕ) (t : Table) (a : Act) (now key : ℕ) (i : Option ℕ) → Makes a → Turns x t a (spent_at t now key i)
-spent_turns x t a now key None none = plain_turns x t a now reply.AlreadyGone none
-spent_turns x t a now key (Some i) none = spent_found_turns x t a now i key (slice_get t.live i) refl none
-
-released_turns : (x : ℕ) (t : Table) (a : Act) (now serial : ℕ) (i : Option ℕ) → Makes a → Turns x t a (released_at t now serial i)
-released_turns x t a now serial None none = plain_turns x t a now (reply.Released serial) none
-released_turns x t a now serial (Some i) none = same_slots x t a (released_at t now serial (Some i)) refl refl (none (reply.Released serial)) refl
-
-key_released_turns : (x : ℕ) (t : Table) (a : Act) (now serial : ℕ) (i : Option ℕ) → Makes a → Turns x t a (key_released_at t now serial i)
-key_released_turns x t a now serial None none = plain_turns x t a now (reply.KeyReleased serial) none
-key_released_turns x t a now serial (Some i) none = same_slots x t a (key_released_at t now serial (Some i)) refl refl (none (reply.KeyReleased serial)) refl
+spent_turns : (x : ℕ) (t : Table) (now peer key : ℕ) → Turns x t (act.Spend peer key) (spend t now peer key)
+unfolding spend
+spent_turns x t now peer key =
+    let a : Act = act.Spend peer key in
+    let without : Peer → Peer = λ q. record q { slots = without_key key q.slots } in
+    found_has (Turns x t a) t now _ (by_serial peer t.live) _ (plain x t a now reply.AlreadyGone refl refl refl)
+    (λ p found. found_has (Turns x t a) t now _ (by_key key p.slots) _ (plain x t a now reply.AlreadyGone refl refl refl) (λ k has.
+    let new : List Peer = change_first (has_serial peer) without t.live in
+    let set : times x (slot_serials new) + times x (peer_keys p) ≡ times x (slot_serials t.live) + times x (peer_keys (without p)) =
+    rw (slots_total x new, slots_total x t.live) (total_changed (λ q. times x (peer_keys q)) (has_serial peer) without t.live p found) in
+    let out : times x (peer_keys (without p)) + times x (key ∷ []) ≡ times x (peer_keys p) = out_counts x key k p.slots.primary p.slots.secondary has in
+    record {
+      peers = rw (map_changed (λ (q : Peer). q.serial) (has_serial peer) without t.live (λ q. refl)) refl;
+      born = inl (refl, refl);
+      removed_live = omega arith;
+      slots = omega arith;
+      made = inl (refl, refl);
+      taken_live = omega arith;
+    }))
 
 pub turns : (x : ℕ) (t : Table) (now : ℕ) (a : Act) → Turns x t a (act_step t now a)
-unfolding peer_new peer_get remove_peer key_new tx_look rx_look sent settle spend released key_released
-turns x t now (act.Do (command.PeerNew a)) = new_turns x t now a a.remote
-turns x t now (act.Do (command.PeerGet id)) = get_turns x t id now (by_id id t.live)
-turns x t now (act.Do (command.Remove id reason)) = at_turns x t now id reason (position (λ p. p.id.number == id.number) t.live)
-turns x t now (act.Do (command.KeyNew c)) = key_place_turns x t now c (position (λ p. p.id.number == c.peer.number) t.live)
-turns x t now (act.TxLook a) = tx_turns x t (act.TxLook a) now (by_vpn a t.live) (λ r. refl)
-turns x t now (act.RxLook id key_id from) = rx_turns x t (act.RxLook id key_id from) now key_id (rx_peer id from t.live) (λ r. refl)
-turns x t now (act.Sent peer inner outer ping) = sent_turns x t (act.Sent peer inner outer ping) now peer inner outer ping (position (λ p. p.serial == peer) t.live) (λ r. refl)
-turns x t now (act.Settle peer from k inner outer) = settle_turns x t (act.Settle peer from k inner outer) now peer from (settled_as peer k t.live) inner outer (position (λ p. p.serial == peer) t.live) (λ r. refl)
-turns x t now (act.Spend peer key) = spent_turns x t (act.Spend peer key) now key (position (λ p. p.serial == peer) t.live) (λ r. refl)
-turns x t now (act.Released serial) = released_turns x t (act.Released serial) now serial (position (λ p. p.serial == serial) t.dying) (λ r. refl)
-turns x t now (act.KeyReleased serial) = key_released_turns x t (act.KeyReleased serial) now serial (position (λ k. k.serial == serial) t.retired) (λ r. refl)
+unfolding peer_new peer_get tx_look rx_look sent settle released key_released
+turns x t now (act.Do (command.PeerNew a)) =
+    let new : Act = act.Do (command.PeerNew a) in
+    found_has (Turns x t new) t now _ a.remote _ (plain x t new now (reply.Refused Invalid) refl refl refl) (λ remote is. new_turns x t now a remote)
+turns x t now (act.Do (command.PeerGet id)) =
+    let a : Act = act.Do (command.PeerGet id) in
+    found_has (Turns x t a) t now _ (by_id id t.live) _ (plain x t a now (reply.Refused NoEntry) refl refl refl) (λ p found. plain x t a now _ refl refl refl)
+turns x t now (act.Do (command.Remove id reason)) = remove_turns x t now id reason
+turns x t now (act.Do (command.KeyNew c)) = key_new_turns x t now c
+turns x t now (act.TxLook a) = look_turns x t (act.TxLook a) now (by_vpn a t.live) (λ p. p.slots.primary) (λ r. (refl, refl))
+turns x t now (act.RxLook id key_id from) = look_turns x t (act.RxLook id key_id from) now (rx_peer id from t.live) (λ p. by_key_id key_id p.slots) (λ r. (refl, refl))
+turns x t now (act.Sent peer inner outer ping) =
+    changed_turns x t (act.Sent peer inner outer ping) now peer (sent_peer now inner outer ping) (sent_peer now inner outer ping) reply.Done (λ p. record { name = refl; slots = refl }) refl (λ r. (refl, refl))
+turns x t now (act.Settle peer from k inner outer) =
+    let s : Settled = settled_as peer k t.live in
+    changed_turns x t (act.Settle peer from k inner outer) now peer _ _ (reply.Settled s) (λ p. settle_kept now t.live from s inner outer p) refl (λ r. (refl, refl))
+turns x t now (act.Spend peer key) = spent_turns x t now peer key
+turns x t now (act.Released serial) = still x t (act.Released serial) _ refl refl refl refl refl refl refl refl
+turns x t now (act.KeyReleased serial) = still x t (act.KeyReleased serial) _ refl refl refl refl refl refl refl refl
 
-step_turns : (x : ℕ) (t : Table) (e : Entry) → Turns x t e.call.act (step t e.call)
-step_turns x t e = turns x t _ e.call.act
+pub step_turns : (x : ℕ) (t : Table) (call : Call) → Turns x t call.act (step t call)
+step_turns x t call = turns x t _ call.act
 
 -- ---- a whole run
 
--- A key that was made before isn't made again, and none is made twice.
-pub none_again : (x : ℕ) (t : Table) (es : List Entry) → Follows t es → x < t.keys_made → times x (keys_made_in es) ≡ 0
-none_again x t [] follows before = refl
-none_again x t (e ∷ es) follows before =
+-- What a run makes of one kind, of peers or of keys.
+abbrev pub made_in : (Act → Reply → List ℕ) → List Entry → List ℕ
+made_in new [] = []
+made_in new (e ∷ es) = new e.call.act e.reply ++ made_in new es
+
+abbrev pub Counts : (Table → ℕ) → (Act → Reply → List ℕ) → Type 0
+Counts count new = (t : Table) (call : Call) → MakesNext (new call.act (step t call).reply) (count t) (count (step t call).after)
+
+-- What was made before isn't made again, and none is made twice.
+none_again : (count : Table → ℕ) (new : Act → Reply → List ℕ) → Counts count new → (x : ℕ) (t : Table) (es : List Entry) → Follows t es → x < count t → times x (made_in new es) ≡ 0
+none_again count new counts x t [] follows before = refl
+none_again count new counts x t (e ∷ es) follows before =
     let o : Outcome = step t e.call in
-    let all : times x (keys_made_in (e ∷ es)) ≡ times x (key_made_by e.call.act e.reply) + times x (keys_made_in es) = times-append x (key_made_by e.call.act e.reply) (keys_made_in es) in
-    elim (step_turns x t e).made [
-      | inl still ↦
-          let here : key_made_by e.call.act e.reply ≡ [] = rw (← follows.1) still.0 in
-          let later : times x (keys_made_in es) ≡ 0 = none_again x o.after es follows.2 (rw still.1 before) in
+    let all : times x (made_in new (e ∷ es)) ≡ times x (new e.call.act e.reply) + times x (made_in new es) = times-append x (new e.call.act e.reply) (made_in new es) in
+    elim (counts t e.call) [
+      | inl same ↦
+          let here : new e.call.act e.reply ≡ [] = rw (← follows.1) same.0 in
+          let later : times x (made_in new es) ≡ 0 = none_again count new counts x o.after es follows.2 (rw same.1 before) in
           rw (all, here) (omega arith)
       | inr grown ↦
-          let here : key_made_by e.call.act e.reply ≡ t.keys_made ∷ [] = rw (← follows.1) grown.0 in
-          let later : times x (keys_made_in es) ≡ 0 = none_again x o.after es follows.2 (rw grown.1 (omega arith)) in
-          rw (all, here, ne_eqb t.keys_made x (λ s. omega arith)) (omega arith)
+          let here : new e.call.act e.reply ≡ count t ∷ [] = rw (← follows.1) grown.0 in
+          let later : times x (made_in new es) ≡ 0 = none_again count new counts x o.after es follows.2 (rw grown.1 (omega arith)) in
+          rw (all, here, ne_eqb (count t) x (λ s. omega arith)) (omega arith)
     ]
 
-pub made_once : (x : ℕ) (t : Table) (es : List Entry) → Follows t es → times x (keys_made_in es) ≤ 1
-made_once x t [] follows = omega arith
-made_once x t (e ∷ es) follows =
+pub made_once : (count : Table → ℕ) (new : Act → Reply → List ℕ) → Counts count new → (x : ℕ) (t : Table) (es : List Entry) → Follows t es → times x (made_in new es) ≤ 1
+made_once count new counts x t [] follows = omega arith
+made_once count new counts x t (e ∷ es) follows =
     let o : Outcome = step t e.call in
-    let all : times x (keys_made_in (e ∷ es)) ≡ times x (key_made_by e.call.act e.reply) + times x (keys_made_in es) = times-append x (key_made_by e.call.act e.reply) (keys_made_in es) in
-    elim (step_turns x t e).made [
-      | inl still ↦
-          let here : key_made_by e.call.act e.reply ≡ [] = rw (← follows.1) still.0 in
-          let later : times x (keys_made_in es) ≤ 1 = made_once x o.after es follows.2 in
+    let all : times x (made_in new (e ∷ es)) ≡ times x (new e.call.act e.reply) + times x (made_in new es) = times-append x (new e.call.act e.reply) (made_in new es) in
+    let later : times x (made_in new es) ≤ 1 = made_once count new counts x o.after es follows.2 in
+    elim (counts t e.call) [
+      | inl same ↦
+          let here : new e.call.act e.reply ≡ [] = rw (← follows.1) same.0 in
           rw (all, here) (omega arith)
       | inr grown ↦
-          let here : key_made_by e.call.act e.reply ≡ t.keys_made ∷ [] = rw (← follows.1) grown.0 in
-          elim (cases_eq t.keys_made x) [
+          let here : new e.call.act e.reply ≡ count t ∷ [] = rw (← follows.1) grown.0 in
+          elim (cases_eq (count t) x) [
             | inl same ↦
-                let later : times x (keys_made_in es) ≡ 0 = none_again x o.after es follows.2 (rw grown.1 (omega arith)) in
-                rw (all, here, eq-eqb t.keys_made x same) (omega arith)
-            | inr other ↦
-                let later : times x (keys_made_in es) ≤ 1 = made_once x o.after es follows.2 in
-                rw (all, here, ne_eqb t.keys_made x other) (omega arith)
+                let none : times x (made_in new es) ≡ 0 = none_again count new counts x o.after es follows.2 (rw grown.1 (omega arith)) in
+                rw (all, here, eq-eqb (count t) x same) (omega arith)
+            | inr other ↦ rw (all, here, ne_eqb (count t) x other) (omega arith)
           ]
     ]
 
-slots_balance : (x : ℕ) (t : Table) (es : List Entry) → Follows t es → times x (slot_serials (table_after t es).live) + times x (keys_taken_in (steps_after t es)) ≡ times x (slot_serials t.live) + times x (keys_made_in es)
+live_balance : (x : ℕ) (t : Table) (es : List Entry) → Follows t es → times x (serials_of (table_after t es).live) + times x (removed_in es) ≡ times x (serials_of t.live) + times x (made_in peer_made_by es)
+live_balance x t [] follows = omega arith
+live_balance x t (e ∷ es) follows =
+    let o : Outcome = step t e.call in
+    let here : times x (serials_of o.after.live) + times x (removed e.reply) ≡ times x (serials_of t.live) + times x (peer_made_by e.call.act e.reply) = rw (← follows.1) (step_turns x t e.call).peers in
+    let later : times x (serials_of (table_after o.after es).live) + times x (removed_in es) ≡ times x (serials_of o.after.live) + times x (made_in peer_made_by es) = live_balance x o.after es follows.2 in
+    let gone : times x (removed_in (e ∷ es)) ≡ times x (removed e.reply) + times x (removed_in es) = times-append x (removed e.reply) (removed_in es) in
+    let new : times x (made_in peer_made_by (e ∷ es)) ≡ times x (peer_made_by e.call.act e.reply) + times x (made_in peer_made_by es) = times-append x (peer_made_by e.call.act e.reply) (made_in peer_made_by es) in
+    rw (gone, new) (omega arith)
+
+slots_balance : (x : ℕ) (t : Table) (es : List Entry) → Follows t es → times x (slot_serials (table_after t es).live) + times x (keys_taken_in (steps_after t es)) ≡ times x (slot_serials t.live) + times x (made_in key_made_by es)
 slots_balance x t [] follows = omega arith
 slots_balance x t (e ∷ es) follows =
     let o : Outcome = step t e.call in
-    let here : times x (slot_serials o.after.live) + times x o.taken ≡ times x (slot_serials t.live) + times x (key_made_by e.call.act e.reply) = rw (← follows.1) (step_turns x t e).slots in
-    let later : times x (slot_serials (table_after o.after es).live) + times x (keys_taken_in (steps_after o.after es)) ≡ times x (slot_serials o.after.live) + times x (keys_made_in es) = slots_balance x o.after es follows.2 in
+    let here : times x (slot_serials o.after.live) + times x o.taken ≡ times x (slot_serials t.live) + times x (key_made_by e.call.act e.reply) = rw (← follows.1) (step_turns x t e.call).slots in
+    let later : times x (slot_serials (table_after o.after es).live) + times x (keys_taken_in (steps_after o.after es)) ≡ times x (slot_serials o.after.live) + times x (made_in key_made_by es) = slots_balance x o.after es follows.2 in
     let gone : times x (keys_taken_in (steps_after t (e ∷ es))) ≡ times x o.taken + times x (keys_taken_in (steps_after o.after es)) = times-append x o.taken (keys_taken_in (steps_after o.after es)) in
-    let new : times x (keys_made_in (e ∷ es)) ≡ times x (key_made_by e.call.act e.reply) + times x (keys_made_in es) = times-append x (key_made_by e.call.act e.reply) (keys_made_in es) in
+    let new : times x (made_in key_made_by (e ∷ es)) ≡ times x (key_made_by e.call.act e.reply) + times x (made_in key_made_by es) = times-append x (key_made_by e.call.act e.reply) (made_in key_made_by es) in
     rw (gone, new) (omega arith)
 
--- No key leaves its slot twice.
+-- No peer is removed twice, and no key leaves its slot twice.
+pub removed_times : (x : ℕ) (journal : List Entry) → IsRun journal → times x (removed_in journal) ≤ 1
+removed_times x journal run =
+    let balance : times x (serials_of (table_after empty_table journal).live) + times x (removed_in journal) ≡ 0 + times x (made_in peer_made_by journal) = live_balance x empty_table journal run in
+    let most : times x (made_in peer_made_by journal) ≤ 1 = made_once (λ t. t.made) peer_made_by (λ t call. (step_turns 0 t call).born) x empty_table journal run in
+    omega arith
+
 pub taken_once : (x : ℕ) (journal : List Entry) → IsRun journal → times x (keys_taken_in (steps_of journal)) ≤ 1
 taken_once x journal run =
-    let balance : times x (slot_serials (table_after empty_table journal).live) + times x (keys_taken_in (steps_of journal)) ≡ 0 + times x (keys_made_in journal) = slots_balance x empty_table journal run in
-    let most : times x (keys_made_in journal) ≤ 1 = made_once x empty_table journal run in
+    let balance : times x (slot_serials (table_after empty_table journal).live) + times x (keys_taken_in (steps_of journal)) ≡ 0 + times x (made_in key_made_by journal) = slots_balance x empty_table journal run in
+    let most : times x (made_in key_made_by journal) ≤ 1 = made_once (λ t. t.keys_made) key_made_by (λ t call. (step_turns 0 t call).made) x empty_table journal run in
     omega arith

@@ -1,11 +1,14 @@
 pub mod PeerIds
 pub mod Going
 pub mod Lanes
-pub mod Removing
-pub mod Shapes
-pub mod Noted
 pub mod Times
+pub mod Firsts
+pub mod StepCases
+pub mod Shapes
+pub mod Removing
 pub mod KeysTaken
+pub mod Kills
+pub mod Noted
 pub mod Freed
 pub mod ReplayLemmas
 pub mod Counting
@@ -15,6 +18,7 @@ pub mod NonceLaw
 pub mod SealedLaw
 pub mod Places
 pub mod DeliveryLaw
+pub mod Tallies
 pub mod LifetimeLaw
 pub mod Mine
 pub mod Picked

@@ -1,6 +1,6 @@
 -- What the steps of the peer table do to the dying peers and the retired keys.
-use Rattle.std.proofs.Common.{ℕ, ◌≡◌, ◌+◌, zero, suc, List, [], ◌∷◌, ◌++◌, refl, sym, ap, ◌∙◌, Bool, true, false, arith, append-nil, if◌then◌else◌, ◌==◌, ◌&&◌, nat_le, inl, inr}
-use Rattle.std.specs.Prelude.{map, find, Option, Some, None, is_none, is_some, position, slice_get, slice_set}
+use Rattle.std.proofs.Common.{ℕ, ◌≡◌, List, [], ◌∷◌, ◌++◌, refl, sym, ap, ◌∙◌, Bool, true, false, arith, append-nil, ◌==◌, inl, inr}
+use Rattle.std.specs.Prelude.{map, find, Option, Some, None}
 use Rattle.std.specs.List.{list_any}
 use Rattle.std.proofs.lemmas.Bool.{cases_eq, eq-eqb, ne_eqb}
 use Rattle.std.proofs.lemmas.Bool.Decides.{nat_tests}
@@ -15,14 +15,15 @@ use Rattle.ov_model.specs.declared.command.Reason.{Reason}
 use Rattle.ov_model.specs.declared.command.KeyConf.{KeyConf}
 use Rattle.ov_model.specs.declared.command.Command.{Command}
 use Rattle.ov_model.specs.declared.command.Command.TheVariants as command
+use Rattle.ov_model.specs.declared.reply.Reply.{Reply}
 use Rattle.ov_model.specs.declared.reply.Reply.TheVariants as reply
 use Rattle.ov_model.specs.declared.reply.Settled.{Settled}
-use Rattle.ov_model.specs.declared.reply.Settled.TheVariants as settled
-use Rattle.ov_model.specs.declared.reply.Errno.{Errno}
-use Rattle.ov_model.specs.declared.reply.Errno.TheVariants.{NoEntry, Exists, Invalid, NoSpace}
-use Rattle.ov_model.specs.Tables.{Peer, Key, Table, no_keys, key_serials, key_if_any, keys_in, in_slot, by_id, by_remote, by_vpn, by_key_id, by_key, shares_vpn}
-use Rattle.ov_model.specs.Step.{Outcome, replied, refused, key_found, tx_found, tx_look, rx_peer, rx_found, rx_look, sent_peer, sent_dying, sent_not_live, sent_live, sent_at, sent, received_peer, settled_peer, settled_as, settle_dying, settle_not_live, settle_live, settle_at, settle, spent_key, spent_found, spent_at, spend, peer_of, peer_new, peer_new_at, peer_new_with, peer_get, peer_get_of, remove_peer, removed_at, removed_found, key_new, key_new_place, key_new_found, key_made, released, key_released, command_step}
+use Rattle.ov_model.specs.Tables.{Peer, Key, Table, has_serial, bare, serials_of, key_serials, key_if_any, keys_in, keys_of, in_slot, by_id, by_serial, by_vpn, by_key_id, by_key}
+use Rattle.ov_model.specs.Step.{Outcome, replied, where_found, change_peer, key_found, tx_look, rx_peer, rx_look, sent_peer, sent, settled_as, settle, spent_key, spend, peer_new_checks, peer_made, peer_new, peer_new_at, peer_get, removals, remove_peer, key_new_checks, key_new, key_made, released, key_released, command_step}
 use Rattle.ov_model.specs.Path.{SomeOf, none, kept, removed, spent_reply, spent_taken}
+use Rattle.ov_model.proofs.Firsts.{map_changed}
+use Rattle.ov_model.proofs.StepCases.{unless_has, found_has, changed_has}
+use Rattle.ov_model.proofs.Shapes.{Name, Kept, settled_kept}
 
 -- The serials of some peers.
 abbrev pub serials : List Peer → List ℕ
@@ -48,14 +49,7 @@ lets_go_of t now serial rest (p ∷ ps) is all =
     let first : p.serial ≡ serial = (let e : ◌≡◌ {A = List ℕ} (p.serial ∷ serials ps) (serial ∷ rest) = all in cc) in
     let others : serials ps ≡ rest = (let e : ◌≡◌ {A = List ℕ} (p.serial ∷ serials ps) (serial ∷ rest) = all in cc) in
     let test : (p.serial == serial) ≡ true = rw first (grind (arith, nat_tests)) in
-    let place : position (λ q. q.serial == serial) t.dying ≡ Some 0 = rw (is, test) (grind (arith, nat_tests)) in
-    record {
-      may = rw (is, test) refl;
-      reply_is = rw place refl;
-      taken = rw place refl;
-      others = rw (place, is) others;
-      retired = rw place refl;
-    }
+    record { may = rw (is, test) refl; reply_is = refl; taken = refl; others = rw (is, test) others; retired = refl }
 
 pub lets_go : (t : Table) (now serial : ℕ) (rest : List ℕ) → serials t.dying ≡ serial ∷ rest → LetsGo t now serial rest
 lets_go t now serial rest all = lets_go_of t now serial rest t.dying refl all
@@ -75,14 +69,7 @@ lets_key_go_of t now serial rest (k ∷ ks) is all =
     let first : k.serial ≡ serial = (let e : ◌≡◌ {A = List ℕ} (k.serial ∷ key_serials ks) (serial ∷ rest) = all in cc) in
     let others : key_serials ks ≡ rest = (let e : ◌≡◌ {A = List ℕ} (k.serial ∷ key_serials ks) (serial ∷ rest) = all in cc) in
     let test : (k.serial == serial) ≡ true = rw first (grind (arith, nat_tests)) in
-    let place : position (λ q. q.serial == serial) t.retired ≡ Some 0 = rw (is, test) (grind (arith, nat_tests)) in
-    record {
-      may = rw (is, test) refl;
-      reply_is = rw place refl;
-      taken = rw place refl;
-      others = rw (place, is) others;
-      dying = rw place refl;
-    }
+    record { may = rw (is, test) refl; reply_is = refl; taken = refl; others = rw (is, test) others; dying = refl }
 
 pub lets_key_go : (t : Table) (now serial : ℕ) (rest : List ℕ) → key_serials t.retired ≡ serial ∷ rest → LetsKeyGo t now serial rest
 lets_key_go t now serial rest all = lets_key_go_of t now serial rest t.retired refl all
@@ -93,56 +80,32 @@ pub record Joins (t : Table) (o : Outcome) : Type 0 where
   pub joined : serials o.after.dying ≡ serials t.dying ++ removed o.reply
   pub keys_joined : key_serials o.after.retired ≡ key_serials t.retired ++ o.taken
 
-joins_if : (t : Table) (b : Bool) (x y : Outcome) → Joins t x → Joins t y → Joins t (if b then x else y)
-joins_if t true x y h k = h
-joins_if t false x y h k = k
+joins_plain : (t : Table) (now : ℕ) (r : Reply) → removed r ≡ [] → Joins t (replied t now r)
+joins_plain t now r nobody = record { joined = rw nobody (sym (append-nil (serials t.dying))); keys_joined = sym (append-nil (key_serials t.retired)) }
 
-joins_refused : (t : Table) (now : ℕ) (e : Errno) → Joins t (refused t now e)
-joins_refused t now e = record { joined = sym (append-nil (serials t.dying)); keys_joined = sym (append-nil (key_serials t.retired)) }
+new_joins : (t : Table) (now : ℕ) (a : Attrs) (remote : Transport) → Joins t (peer_new_at t now a remote)
+new_joins t now a remote = unless_has (Joins t) t now (peer_new_checks t a remote) (peer_made t now a remote) (λ e. joins_plain t now (reply.Refused e) refl)
+    (record { joined = sym (append-nil (serials t.dying)); keys_joined = sym (append-nil (key_serials t.retired)) })
 
-new_at_joins : (t : Table) (now : ℕ) (a : Attrs) (remote : Transport) → Joins t (peer_new_at t now a remote)
-new_at_joins t now a remote =
-    let made : Outcome = record { after = record t { live = t.live ++ peer_of t.made now a remote ∷ []; made = t.made + 1; moment = now }; reply = reply.Made t.made; taken = []; notes = [] } in
-    let made_joins : Joins t made = record { joined = sym (append-nil (serials t.dying)); keys_joined = sym (append-nil (key_serials t.retired)) } in
-    joins_if t (is_none a.vpn4 && is_none a.vpn6) (refused t now Invalid) _ (joins_refused t now Invalid)
-    (joins_if t (is_some (by_id a.id t.live)) (refused t now Exists) _ (joins_refused t now Exists)
-    (joins_if t (list_any (shares_vpn a) t.live) (refused t now Exists) _ (joins_refused t now Exists)
-    (joins_if t (is_some (by_remote remote t.live)) (refused t now Exists) _ (joins_refused t now Exists)
-    (joins_if t (nat_le 4096 t.made) (refused t now NoSpace) made (joins_refused t now NoSpace) made_joins))))
+serials_bare : (ps : List Peer) → serials (map bare ps) ≡ serials ps
+serials_bare [] = refl
+serials_bare (p ∷ ps) = ap (λ ns. p.serial ∷ ns) (serials_bare ps)
 
-new_joins : (t : Table) (now : ℕ) (a : Attrs) (remote : Option Transport) → Joins t (peer_new_with t now a remote)
-new_joins t now a None = joins_refused t now Invalid
-new_joins t now a (Some remote) = new_at_joins t now a remote
-
-get_joins : (t : Table) (now : ℕ) (p : Option Peer) → Joins t (peer_get_of t now p)
-get_joins t now None = joins_refused t now NoEntry
-get_joins t now (Some p) = record { joined = sym (append-nil (serials t.dying)); keys_joined = sym (append-nil (key_serials t.retired)) }
-
-found_joins : (t : Table) (now : ℕ) (reason : Reason) (i : ℕ) (p : Option Peer) → Joins t (removed_found t now reason i p)
-found_joins t now reason i None = joins_refused t now NoEntry
-found_joins t now reason i (Some p) = record {
-  joined = map-append (λ (q : Peer). q.serial) t.dying (record p { slots = no_keys } ∷ []);
-  keys_joined = map-append (λ (k : Key). k.serial) t.retired (keys_in p.slots);
+-- The removal of any live peers.
+pub removals_join : (t : Table) (now : ℕ) (reason : Reason) (gone left : List Peer) (r : Reply) → removed r ≡ serials_of gone → Joins t (removals t now reason gone left r)
+removals_join t now reason gone left r are = record {
+  joined = map-append (λ (q : Peer). q.serial) t.dying (map bare gone) ∙ rw (serials_bare gone, are) refl;
+  keys_joined = map-append (λ (k : Key). k.serial) t.retired (keys_of gone);
 }
-
-at_joins : (t : Table) (now : ℕ) (reason : Reason) (i : Option ℕ) → Joins t (removed_at t now reason i)
-at_joins t now reason None = joins_refused t now NoEntry
-at_joins t now reason (Some i) = found_joins t now reason i (slice_get t.live i)
-
-key_found_joins : (t : Table) (now : ℕ) (c : KeyConf) (i : ℕ) (p : Option Peer) → Joins t (key_new_found t now c i p)
-key_found_joins t now c i None = joins_refused t now NoEntry
-key_found_joins t now c i (Some p) = elim (nat_le 65536 t.keys_made) as (λ b. Joins t (if b then refused t now NoSpace else key_made t now c i p)) [ true ↦ joins_refused t now NoSpace | false ↦ record { joined = sym (append-nil (serials t.dying)); keys_joined = map-append (λ (k : Key). k.serial) t.retired (key_if_any (in_slot c.slot p.slots)) } ]
-
-key_place_joins : (t : Table) (now : ℕ) (c : KeyConf) (i : Option ℕ) → Joins t (key_new_place t now c i)
-key_place_joins t now c None = joins_refused t now NoEntry
-key_place_joins t now c (Some i) = key_found_joins t now c i (slice_get t.live i)
 
 pub command_joins : (t : Table) (now : ℕ) (c : Command) → Joins t (command_step t now c)
 unfolding peer_new peer_get remove_peer key_new
-command_joins t now (command.PeerNew a) = new_joins t now a a.remote
-command_joins t now (command.PeerGet id) = get_joins t now (by_id id t.live)
-command_joins t now (command.Remove id reason) = at_joins t now reason (position (λ p. p.id.number == id.number) t.live)
-command_joins t now (command.KeyNew c) = key_place_joins t now c (position (λ p. p.id.number == c.peer.number) t.live)
+command_joins t now (command.PeerNew a) = found_has (Joins t) t now _ a.remote _ (joins_plain t now _ refl) (λ remote is. new_joins t now a remote)
+command_joins t now (command.PeerGet id) = found_has (Joins t) t now _ (by_id id t.live) _ (joins_plain t now _ refl) (λ p found. joins_plain t now _ refl)
+command_joins t now (command.Remove id reason) = found_has (Joins t) t now _ (by_id id t.live) _ (joins_plain t now _ refl) (λ p found. removals_join t now reason (p ∷ []) _ _ refl)
+command_joins t now (command.KeyNew c) = found_has (Joins t) t now _ (by_id c.peer t.live) _ (joins_plain t now _ refl)
+    (λ p found. unless_has (Joins t) t now (key_new_checks t) (key_made t now c p) (λ e. joins_plain t now (reply.Refused e) refl)
+    (record { joined = sym (append-nil (serials t.dying)); keys_joined = map-append (λ (k : Key). k.serial) t.retired (key_if_any (in_slot c.slot p.slots)) }))
 
 -- ---- steps that remove nothing
 
@@ -153,77 +116,35 @@ pub record Keeps (t : Table) (o : Outcome) : Type 0 where
   pub taken : o.taken ≡ []
   pub removes_none : removed o.reply ≡ []
 
-serials_set : (ps : List Peer) (i : ℕ) (p q : Peer) → slice_get ps i ≡ Some p → q.serial ≡ p.serial → serials (slice_set ps i q) ≡ serials ps
-serials_set [] i p q at same = refl
-serials_set (x ∷ ps) zero p q at same = let its : x ≡ p = cc in rw (same, its) refl
-serials_set (x ∷ ps) (suc i) p q at same = ap (λ ns. x.serial ∷ ns) (serials_set ps i p q at same)
+plain_keeps : (t : Table) (now : ℕ) (r : Reply) → removed r ≡ [] → Keeps t (replied t now r)
+plain_keeps t now r nobody = record { dying = refl; retired = refl; taken = refl; removes_none = nobody }
 
-look_found_keeps : (t : Table) (now : ℕ) (p : Peer) (k : Option Key) → Keeps t (key_found t now p k)
-look_found_keeps t now p None = record { dying = refl; retired = refl; taken = refl; removes_none = refl }
-look_found_keeps t now p (Some k) = record { dying = refl; retired = refl; taken = refl; removes_none = refl }
-
-tx_found_keeps : (t : Table) (now : ℕ) (p : Option Peer) → Keeps t (tx_found t now p)
-tx_found_keeps t now None = record { dying = refl; retired = refl; taken = refl; removes_none = refl }
-tx_found_keeps t now (Some p) = look_found_keeps t now p p.slots.primary
+look_keeps : (t : Table) (now : ℕ) (p : Option Peer) (key : Peer → Option Key) → Keeps t (where_found t now reply.NoPeer p (λ q. key_found t now q (key q)))
+look_keeps t now p key = found_has (Keeps t) t now _ p _ (plain_keeps t now reply.NoPeer refl)
+    (λ q found. found_has (Keeps t) t now _ (key q) _ (plain_keeps t now reply.NoKey refl) (λ k has. plain_keeps t now _ refl))
 
 pub tx_look_keeps : (t : Table) (now : ℕ) (a : Addr) → Keeps t (tx_look t now a)
 unfolding tx_look
-tx_look_keeps t now a = tx_found_keeps t now (by_vpn a t.live)
-
-rx_found_keeps : (t : Table) (now : ℕ) (id : KeyId) (p : Option Peer) → Keeps t (rx_found t now id p)
-rx_found_keeps t now id None = record { dying = refl; retired = refl; taken = refl; removes_none = refl }
-rx_found_keeps t now id (Some p) = look_found_keeps t now p (by_key_id id p.slots)
+tx_look_keeps t now a = look_keeps t now (by_vpn a t.live) (λ p. p.slots.primary)
 
 pub rx_look_keeps : (t : Table) (now : ℕ) (id : PeerId) (key_id : KeyId) (from : Transport) → Keeps t (rx_look t now id key_id from)
 unfolding rx_look
-rx_look_keeps t now id key_id from = rx_found_keeps t now key_id (rx_peer id from t.live)
+rx_look_keeps t now id key_id from = look_keeps t now (rx_peer id from t.live) (λ p. by_key_id key_id p.slots)
 
-sent_dying_keeps : (t : Table) (now inner outer : ℕ) (ping : Bool) (i : ℕ) (p : Option Peer) → slice_get t.dying i ≡ p → Keeps t (sent_dying t now inner outer ping i p)
-sent_dying_keeps t now inner outer ping i None at = record { dying = refl; retired = refl; taken = refl; removes_none = refl }
-sent_dying_keeps t now inner outer ping i (Some p) at = record { dying = serials_set t.dying i p (sent_peer now inner outer ping p) at refl; retired = refl; taken = refl; removes_none = refl }
-
-sent_not_live_keeps : (t : Table) (now inner outer : ℕ) (ping : Bool) (i : Option ℕ) → Keeps t (sent_not_live t now inner outer ping i)
-sent_not_live_keeps t now inner outer ping None = record { dying = refl; retired = refl; taken = refl; removes_none = refl }
-sent_not_live_keeps t now inner outer ping (Some i) = sent_dying_keeps t now inner outer ping i (slice_get t.dying i) refl
-
-sent_live_keeps : (t : Table) (now inner outer : ℕ) (ping : Bool) (i : ℕ) (p : Option Peer) → Keeps t (sent_live t now inner outer ping i p)
-sent_live_keeps t now inner outer ping i None = record { dying = refl; retired = refl; taken = refl; removes_none = refl }
-sent_live_keeps t now inner outer ping i (Some p) = record { dying = refl; retired = refl; taken = refl; removes_none = refl }
-
-sent_at_keeps : (t : Table) (now peer inner outer : ℕ) (ping : Bool) (i : Option ℕ) → Keeps t (sent_at t now peer inner outer ping i)
-sent_at_keeps t now peer inner outer ping None = sent_not_live_keeps t now inner outer ping (position (λ p. p.serial == peer) t.dying)
-sent_at_keeps t now peer inner outer ping (Some i) = sent_live_keeps t now inner outer ping i (slice_get t.live i)
+-- A peer that is changed and keeps its serial.
+changed_keeps : (t : Table) (now serial : ℕ) (live dying : Peer → Peer) (r : Reply) → ((p : Peer) → (dying p).serial ≡ p.serial) → removed r ≡ [] → Keeps t (replied (change_peer serial live dying t) now r)
+changed_keeps t now serial live dying r same nobody =
+    changed_has (λ u. Keeps t (replied u now r)) t serial live dying
+    (record { dying = refl; retired = refl; taken = refl; removes_none = nobody })
+    (record { dying = map_changed (λ (p : Peer). p.serial) (has_serial serial) dying t.dying same; retired = refl; taken = refl; removes_none = nobody })
 
 pub sent_keeps : (t : Table) (now peer inner outer : ℕ) (ping : Bool) → Keeps t (sent t now peer inner outer ping)
 unfolding sent
-sent_keeps t now peer inner outer ping = sent_at_keeps t now peer inner outer ping (position (λ p. p.serial == peer) t.live)
-
--- A peer keeps its serial and its id, whatever a packet changes in it.
-pub settled_serial : (s : Settled) (inner : ℕ) (p : Peer) → (settled_peer s inner p).serial ≡ p.serial
-settled_serial settled.Deliver inner p = refl
-settled_serial settled.Ping inner p = refl
-settled_serial settled.NotIp inner p = refl
-settled_serial settled.NotOwner inner p = refl
-
-settle_dying_keeps : (t : Table) (now : ℕ) (s : Settled) (inner outer i : ℕ) (p : Option Peer) → slice_get t.dying i ≡ p → Keeps t (settle_dying t now s inner outer i p)
-settle_dying_keeps t now s inner outer i None at = record { dying = refl; retired = refl; taken = refl; removes_none = refl }
-settle_dying_keeps t now s inner outer i (Some p) at = record { dying = serials_set t.dying i p (settled_peer s inner (received_peer now outer p)) at (settled_serial s inner (received_peer now outer p)); retired = refl; taken = refl; removes_none = refl }
-
-settle_not_live_keeps : (t : Table) (now : ℕ) (s : Settled) (inner outer : ℕ) (i : Option ℕ) → Keeps t (settle_not_live t now s inner outer i)
-settle_not_live_keeps t now s inner outer None = record { dying = refl; retired = refl; taken = refl; removes_none = refl }
-settle_not_live_keeps t now s inner outer (Some i) = settle_dying_keeps t now s inner outer i (slice_get t.dying i) refl
-
-settle_live_keeps : (t : Table) (now : ℕ) (from : Option Transport) (s : Settled) (inner outer i : ℕ) (p : Option Peer) → Keeps t (settle_live t now from s inner outer i p)
-settle_live_keeps t now from s inner outer i None = record { dying = refl; retired = refl; taken = refl; removes_none = refl }
-settle_live_keeps t now from s inner outer i (Some p) = record { dying = refl; retired = refl; taken = refl; removes_none = refl }
-
-settle_at_keeps : (t : Table) (now peer : ℕ) (from : Option Transport) (s : Settled) (inner outer : ℕ) (i : Option ℕ) → Keeps t (settle_at t now peer from s inner outer i)
-settle_at_keeps t now peer from s inner outer None = settle_not_live_keeps t now s inner outer (position (λ p. p.serial == peer) t.dying)
-settle_at_keeps t now peer from s inner outer (Some i) = settle_live_keeps t now from s inner outer i (slice_get t.live i)
+sent_keeps t now peer inner outer ping = changed_keeps t now peer (sent_peer now inner outer ping) (sent_peer now inner outer ping) reply.Done (λ p. refl) refl
 
 pub settle_keeps : (t : Table) (now peer : ℕ) (from : Option Transport) (k : InnerKind) (inner outer : ℕ) → Keeps t (settle t now peer from k inner outer)
 unfolding settle
-settle_keeps t now peer from k inner outer = settle_at_keeps t now peer from (settled_as peer k t.live) inner outer (position (λ p. p.serial == peer) t.live)
+settle_keeps t now peer from k inner outer = changed_keeps t now peer _ _ (reply.Settled (settled_as peer k t.live)) (λ p. ap (λ (n : Name). n.serial) (settled_kept (settled_as peer k t.live) inner _).name) refl
 
 -- A spent key joins the retired ones exactly where this step took it out of its slot.
 pub record Spends (t : Table) (key : ℕ) (o : Outcome) : Type 0 where
@@ -248,20 +169,10 @@ found_is key (q ∷ ks) k found =
 spares : (t : Table) (now key : ℕ) → Spends t key (replied t now reply.AlreadyGone)
 spares t now key = record { killed = false; dying = refl; reply_is = refl; taken = refl; keys_joined = sym (append-nil (key_serials t.retired)) }
 
-spent_key_spends : (t : Table) (now i : ℕ) (p : Peer) (key : ℕ) (k : Option Key) → by_key key p.slots ≡ k → Spends t key (spent_key t now i p key k)
-spent_key_spends t now i p key None found = spares t now key
-spent_key_spends t now i p key (Some k) found =
-    let its : k.serial ≡ key = found_is key (keys_in p.slots) k found in
-    record { killed = true; dying = refl; reply_is = refl; taken = refl; keys_joined = map-append (λ (q : Key). q.serial) t.retired (k ∷ []) ∙ ap (λ n. key_serials t.retired ++ n ∷ []) its }
-
-spent_found_spends : (t : Table) (now i key : ℕ) (p : Option Peer) → Spends t key (spent_found t now i key p)
-spent_found_spends t now i key None = spares t now key
-spent_found_spends t now i key (Some p) = spent_key_spends t now i p key (by_key key p.slots) refl
-
-spent_at_spends : (t : Table) (now key : ℕ) (i : Option ℕ) → Spends t key (spent_at t now key i)
-spent_at_spends t now key None = spares t now key
-spent_at_spends t now key (Some i) = spent_found_spends t now i key (slice_get t.live i)
-
 pub spend_spends : (t : Table) (now peer key : ℕ) → Spends t key (spend t now peer key)
 unfolding spend
-spend_spends t now peer key = spent_at_spends t now key (position (λ p. p.serial == peer) t.live)
+spend_spends t now peer key =
+    found_has (Spends t key) t now _ (by_serial peer t.live) _ (spares t now key)
+    (λ p found. found_has (Spends t key) t now _ (by_key key p.slots) _ (spares t now key) (λ k has.
+    let its : k.serial ≡ key = found_is key (keys_in p.slots) k has in
+    record { killed = true; dying = refl; reply_is = refl; taken = refl; keys_joined = map-append (λ (q : Key). q.serial) t.retired (k ∷ []) ∙ ap (λ n. key_serials t.retired ++ n ∷ []) its }))

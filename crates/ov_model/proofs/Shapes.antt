@@ -1,8 +1,10 @@
--- What a step does to the serials and ids of the live peers: it keeps them, makes one, or removes one.
-use Rattle.std.proofs.Common.{ℕ, ◌≡◌, ◌+◌, zero, suc, List, [], ◌∷◌, ◌++◌, refl, ap, ◌∙◌, Bool, true, false, if◌then◌else◌, ◌==◌, ◌&&◌, nat_le, inl, inr, ◌⊎◌}
-use Rattle.std.specs.Prelude.{map, filter, Option, Some, None, is_none, is_some, position, remove, slice_get, slice_set}
-use Rattle.std.specs.List.{list_any}
+-- What a step tells: whom it removed, with its notes, and which ids the live peers have after it.
+use Rattle.std.proofs.Common.{ℕ, ◌≡◌, ◌+◌, ◌≤◌, List, [], ◌∷◌, refl, ap, ◌∙◌, length, Bool, true, false, arith, if◌then◌else◌, ◌==◌}
+use Rattle.std.specs.Prelude.{map, filter, find, Option, Some, None, is_some}
+use Rattle.std.specs.List.{AllByRecursion}
+use Rattle.std.proofs.lemmas.Bool.{eq-eqb, ne_eqb}
 use Rattle.std.proofs.lemmas.List.{map-append}
+use Rattle.ov_base.specs.declared.address.Addr.{Addr}
 use Rattle.ov_base.specs.declared.address.Transport.{Transport}
 use Rattle.ov_model.specs.declared.ident.PeerId.{PeerId}
 use Rattle.ov_model.specs.declared.ident.KeyId.{KeyId}
@@ -12,19 +14,22 @@ use Rattle.ov_model.specs.declared.command.Reason.{Reason}
 use Rattle.ov_model.specs.declared.command.Command.TheVariants as command
 use Rattle.ov_model.specs.declared.act.Act.{Act}
 use Rattle.ov_model.specs.declared.act.Act.TheVariants as act
-use Rattle.ov_model.specs.declared.entry.Entry.{Entry}
+use Rattle.ov_model.specs.declared.act.Call.{Call}
+use Rattle.ov_model.specs.declared.act.InnerKind.{InnerKind}
 use Rattle.ov_model.specs.declared.note.NoteBody.TheVariants as note
-use Rattle.ov_model.specs.declared.reply.Reply.TheVariants as reply
 use Rattle.ov_model.specs.declared.reply.Errno.{Errno}
-use Rattle.ov_model.specs.declared.reply.Errno.TheVariants.{NoEntry, Exists, Invalid, NoSpace}
+use Rattle.ov_model.specs.declared.reply.Errno.TheVariants.{NoEntry, Invalid}
+use Rattle.ov_model.specs.declared.reply.Reply.{Reply}
+use Rattle.ov_model.specs.declared.reply.Reply.TheVariants as reply
 use Rattle.ov_model.specs.declared.reply.Settled.{Settled}
 use Rattle.ov_model.specs.declared.reply.Settled.TheVariants as settled
-use Rattle.ov_model.specs.Tables.{Peer, Key, Table, without_key, by_id, by_remote, by_vpn, by_key_id, by_key, with_slot, shares_vpn}
-use Rattle.ov_model.specs.Step.{Outcome, refused, peer_of, peer_new, peer_new_at, peer_new_with, peer_get, peer_get_of, remove_peer, removed_at, removed_found, key_of_conf, key_made, key_new_found, key_new_place, key_new, key_found, tx_found, tx_look, rx_peer, rx_found, rx_look, sent_peer, sent_dying, sent_not_live, sent_live, sent_at, sent, received_peer, floated, settled_peer, settled_as, settle_dying, settle_not_live, settle_live, settle_at, settle, spent_key, spent_found, spent_at, spend, released, released_at, key_released, key_released_at, act_step, step}
+use Rattle.ov_model.specs.Tables.{Peer, Key, Table, without_first, has_id, has_serial, serials_of, by_id, by_serial, by_remote, by_vpn, by_key_id, by_key, without_key}
+use Rattle.ov_model.specs.Step.{Outcome, replied, refused, where_found, change_peer, peer_of, peer_new_checks, peer_made, peer_new, peer_new_at, peer_get, removals, remove_peer, key_of_conf, with_key, key_new_checks, key_made, key_new, hold_of, key_found, tx_look, rx_peer, rx_look, sent_peer, sent, received_peer, floated, settled_peer, settled_as, settle, spent_key, spend, released, key_released, act_step, step}
 use Rattle.ov_model.specs.Path.{removed}
-use Rattle.ov_model.specs.Removals.{id_by, reason_of, is_peer_del}
-
--- ---- the names of peers
+use Rattle.ov_model.specs.Removals.{id_by, reason_of, killed_by, is_peer_del, is_key_swap, del_note}
+use Rattle.ov_model.proofs.Lanes.{all_append}
+use Rattle.ov_model.proofs.Firsts.{all_found, all_without, map_changed}
+use Rattle.ov_model.proofs.StepCases.{unless_has, found_has, changed_has}
 
 -- What never changes of a peer.
 pub record Name : Type 0 where
@@ -37,147 +42,133 @@ name_of p = record { serial = p.serial; id = p.id }
 abbrev pub names : List Peer → List Name
 names peers = map name_of peers
 
-names_set : (ps : List Peer) (i : ℕ) (p q : Peer) → slice_get ps i ≡ Some p → name_of q ≡ name_of p → names (slice_set ps i q) ≡ names ps
-names_set [] i p q at same = refl
-names_set (x ∷ ps) zero p q at same = let its : x ≡ p = cc in rw (same, its) refl
-names_set (x ∷ ps) (suc i) p q at same = ap (λ (ns : List Name). name_of x ∷ ns) (names_set ps i p q at same)
+-- The ids of some serials are those that these peers have.
+abbrev pub Known : (ℕ → Option PeerId) → List Name → Type 0
+Known ids ns = AllByRecursion (λ n. ids n.serial ≡ Some n.id) ns
 
-names_remove : (ps : List Peer) (i : ℕ) → names (remove ps i) ≡ remove (names ps) i
-names_remove [] zero = refl
-names_remove [] (suc i) = refl
-names_remove (x ∷ ps) zero = refl
-names_remove (x ∷ ps) (suc i) = ap (λ (ns : List Name). name_of x ∷ ns) (names_remove ps i)
+-- gone: the removed peers, in the order of the reply.
+pub record Tells (t : Table) (a : Act) (o : Outcome) : Type 0 where
+  pub gone : List Name
+  pub removed_are : removed o.reply ≡ map (λ n. n.serial) gone
+  pub dels : map (λ b. Some b) (filter is_peer_del o.notes) ≡ map (λ n. del_note (Some n.id) (reason_of a)) gone
+  pub swaps : length (filter is_key_swap o.notes) ≡ length (killed_by o.reply a)
+  pub were : (ids : ℕ → Option PeerId) → Known ids (names t.live) → Known ids gone
+  pub live : (ids : ℕ → Option PeerId) → Known ids (names t.live) → ((id : PeerId) → id_by o.reply a t.made ≡ Some id → ids t.made ≡ Some id) → Known ids (names o.after.live)
+  pub grows : t.made ≤ o.after.made
+  pub unmade : (s : ℕ) → o.after.made ≤ s → id_by o.reply a s ≡ None
 
-names_at : (ps : List Peer) (i : ℕ) (p : Peer) → slice_get ps i ≡ Some p → slice_get (names ps) i ≡ Some (name_of p)
-names_at [] i p at = cc
-names_at (x ∷ ps) zero p at = let its : x ≡ p = cc in ap (λ q. Some (name_of q)) its
-names_at (x ∷ ps) (suc i) p at = names_at ps i p at
+-- A step without a note after which the same peers are live.
+quiet : (t : Table) (a : Act) (o : Outcome) → names o.after.live ≡ names t.live → o.after.made ≡ t.made → removed o.reply ≡ [] → o.notes ≡ [] → killed_by o.reply a ≡ [] → ((s : ℕ) → id_by o.reply a s ≡ None) → Tells t a o
+quiet t a o live made none notes spares unmade = record {
+  gone = [];
+  removed_are = none;
+  dels = rw notes refl;
+  swaps = rw (notes, spares) refl;
+  were = λ ids known. tt;
+  live = λ ids known new. rw live known;
+  grows = rw made (omega arith);
+  unmade = λ s above. unmade s;
+}
 
--- ---- the three shapes
-
--- It keeps them.
-pub record Still (t : Table) (a : Act) (o : Outcome) : Type 0 where
-  pub live : names o.after.live ≡ names t.live
-  pub made : o.after.made ≡ t.made
-  pub none_removed : removed o.reply ≡ []
-  pub notes : filter is_peer_del o.notes ≡ []
-  pub none_made : (s : ℕ) → id_by o.reply a s ≡ None
-
--- It makes one.
-pub record Grows (t : Table) (a : Act) (o : Outcome) : Type 0 where
-  pub peer : Name
-  pub live : names o.after.live ≡ names t.live ++ peer ∷ []
-  pub serial : peer.serial ≡ t.made
-  pub made : o.after.made ≡ t.made + 1
-  pub none_removed : removed o.reply ≡ []
-  pub notes : filter is_peer_del o.notes ≡ []
-  pub one_made : (s : ℕ) → id_by o.reply a s ≡ (if t.made == s then Some peer.id else None)
-
--- It removes one.
-pub record Loses (t : Table) (a : Act) (o : Outcome) : Type 0 where
-  pub place : ℕ
-  pub peer : Name
-  pub reason : Reason
-  pub at : slice_get (names t.live) place ≡ Some peer
-  pub live : names o.after.live ≡ remove (names t.live) place
-  pub made : o.after.made ≡ t.made
-  pub one_removed : removed o.reply ≡ peer.serial ∷ []
-  pub notes : filter is_peer_del o.notes ≡ note.PeerDel peer.id reason ∷ []
-  pub reason_is : reason_of a ≡ Some reason
-  pub none_made : (s : ℕ) → id_by o.reply a s ≡ None
-
-abbrev pub Shape : Table → Act → Outcome → Type 0
-Shape t a o = Still t a o ⊎ (Grows t a o ⊎ Loses t a o)
-
-shape_if : (t : Table) (a : Act) (b : Bool) (x y : Outcome) → Shape t a x → Shape t a y → Shape t a (if b then x else y)
-shape_if t a true x y h k = h
-shape_if t a false x y h k = k
-
-refused_still : (t : Table) (a : Act) (now : ℕ) (e : Errno) → Shape t a (refused t now e)
-refused_still t a now e = inl (record { live = refl; made = refl; none_removed = refl; notes = refl; none_made = λ s. refl })
+refusal : (t : Table) (a : Act) (now : ℕ) (e : Errno) → Tells t a (refused t now e)
+refusal t a now e = quiet t a (refused t now e) refl refl refl refl refl (λ s. refl)
 
 -- ---- commands
 
-new_at_shape : (t : Table) (now : ℕ) (a : Attrs) (remote : Transport) → Shape t (act.Do (command.PeerNew a)) (peer_new_at t now a remote)
-new_at_shape t now a remote =
+new_tells : (t : Table) (now : ℕ) (a : Attrs) (remote : Transport) → Tells t (act.Do (command.PeerNew a)) (peer_new_at t now a remote)
+new_tells t now a remote =
     let new : Act = act.Do (command.PeerNew a) in
-    let made : Outcome = record { after = record t { live = t.live ++ peer_of t.made now a remote ∷ []; made = t.made + 1; moment = now }; reply = reply.Made t.made; taken = []; notes = [] } in
-    let grows : Grows t new made = record { peer = name_of (peer_of t.made now a remote); live = map-append name_of t.live (peer_of t.made now a remote ∷ []); serial = refl; made = refl; none_removed = refl; notes = refl; one_made = λ s. refl } in
-    shape_if t new (is_none a.vpn4 && is_none a.vpn6) (refused t now Invalid) _ (refused_still t new now Invalid)
-    (shape_if t new (is_some (by_id a.id t.live)) (refused t now Exists) _ (refused_still t new now Exists)
-    (shape_if t new (list_any (shares_vpn a) t.live) (refused t now Exists) _ (refused_still t new now Exists)
-    (shape_if t new (is_some (by_remote remote t.live)) (refused t now Exists) _ (refused_still t new now Exists)
-    (shape_if t new (nat_le 4096 t.made) (refused t now NoSpace) made (refused_still t new now NoSpace) (inr (inl grows))))))
+    let p : Peer = peer_of t.made now a remote in
+    unless_has (Tells t new) t now (peer_new_checks t a remote) (peer_made t now a remote) (refusal t new now) (record {
+      gone = [];
+      removed_are = refl;
+      dels = refl;
+      swaps = refl;
+      were = λ ids known. tt;
+      live = λ ids known made.
+          let given : id_by (reply.Made t.made) new t.made ≡ Some a.id = rw (eq-eqb t.made t.made refl) refl in
+          rw (map-append name_of t.live (p ∷ [])) (all_append (λ (n : Name). ids n.serial ≡ Some n.id) (names t.live) (name_of p ∷ []) known (made a.id given, tt));
+      grows = omega arith;
+      unmade = λ s above. let past : t.made + 1 ≤ s = above in rw (ne_eqb t.made s (λ e. omega arith)) refl;
+    })
 
-new_shape : (t : Table) (now : ℕ) (a : Attrs) (remote : Option Transport) → Shape t (act.Do (command.PeerNew a)) (peer_new_with t now a remote)
-new_shape t now a None = refused_still t (act.Do (command.PeerNew a)) now Invalid
-new_shape t now a (Some remote) = new_at_shape t now a remote
+-- A removal's notes tell of the removed peers, and of no killed key.
+dels_tell : (reason : Reason) (gone : List Peer) → map (λ b. Some b) (filter is_peer_del (map (λ p. note.PeerDel p.id reason) gone)) ≡ map (λ (n : Name). del_note (Some n.id) (Some reason)) (names gone)
+dels_tell reason [] = refl
+dels_tell reason (p ∷ gone) = ap (λ ns. Some (note.PeerDel p.id reason) ∷ ns) (dels_tell reason gone)
 
-get_shape : (t : Table) (a : Act) (now : ℕ) (p : Option Peer) → Shape t a (peer_get_of t now p)
-get_shape t a now None = refused_still t a now NoEntry
-get_shape t a now (Some p) = inl (record { live = refl; made = refl; none_removed = refl; notes = refl; none_made = λ s. refl })
+no_swaps : (reason : Reason) (gone : List Peer) → filter is_key_swap (map (λ p. note.PeerDel p.id reason) gone) ≡ []
+no_swaps reason [] = refl
+no_swaps reason (p ∷ gone) = no_swaps reason gone
 
-found_shape : (t : Table) (now : ℕ) (id : PeerId) (reason : Reason) (i : ℕ) (p : Option Peer) → slice_get t.live i ≡ p → Shape t (act.Do (command.Remove id reason)) (removed_found t now reason i p)
-found_shape t now id reason i None at = refused_still t (act.Do (command.Remove id reason)) now NoEntry
-found_shape t now id reason i (Some p) at = inr (inr (record { place = i; peer = name_of p; reason = reason; at = names_at t.live i p at; live = names_remove t.live i; made = refl; one_removed = refl; notes = refl; reason_is = refl; none_made = λ s. refl }))
+serials_named : (ps : List Peer) → serials_of ps ≡ map (λ (n : Name). n.serial) (names ps)
+serials_named [] = refl
+serials_named (p ∷ ps) = ap (λ ns. p.serial ∷ ns) (serials_named ps)
 
-at_shape : (t : Table) (now : ℕ) (id : PeerId) (reason : Reason) (i : Option ℕ) → Shape t (act.Do (command.Remove id reason)) (removed_at t now reason i)
-at_shape t now id reason None = refused_still t (act.Do (command.Remove id reason)) now NoEntry
-at_shape t now id reason (Some i) = found_shape t now id reason i (slice_get t.live i) refl
+-- The removal of any live peers.
+pub removals_tell : (t : Table) (a : Act) (now : ℕ) (reason : Reason) (gone left : List Peer) (r : Reply) → reason_of a ≡ Some reason → removed r ≡ serials_of gone → killed_by r a ≡ [] → ((s : ℕ) → id_by r a s ≡ None) → ((ids : ℕ → Option PeerId) → Known ids (names t.live) → Known ids (names gone) × Known ids (names left)) → Tells t a (removals t now reason gone left r)
+removals_tell t a now reason gone left r is removed_are spares unmade parts = record {
+  gone = names gone;
+  removed_are = removed_are ∙ serials_named gone;
+  dels = rw is (dels_tell reason gone);
+  swaps = rw (no_swaps reason gone, spares) refl;
+  were = λ ids known. (parts ids known).0;
+  live = λ ids known new. (parts ids known).1;
+  grows = omega arith;
+  unmade = λ s above. unmade s;
+}
+
+known_peers : (ids : ℕ → Option PeerId) (ps : List Peer) → Known ids (names ps) → AllByRecursion (λ (p : Peer). ids p.serial ≡ Some p.id) ps
+known_peers ids [] known = tt
+known_peers ids (p ∷ ps) known = (known.0, known_peers ids ps known.1)
+
+named : (ids : ℕ → Option PeerId) (ps : List Peer) → AllByRecursion (λ (p : Peer). ids p.serial ≡ Some p.id) ps → Known ids (names ps)
+named ids [] all = tt
+named ids (p ∷ ps) all = (all.0, named ids ps all.1)
+
+known_found : (ids : ℕ → Option PeerId) (fits : Peer → Bool) (ps : List Peer) (p : Peer) → find fits ps ≡ Some p → Known ids (names ps) → Known ids (names (p ∷ [])) × Known ids (names (without_first fits ps))
+known_found ids fits ps p found known =
+    let P : Peer → Type 0 = λ q. ids q.serial ≡ Some q.id in
+    let all : AllByRecursion P ps = known_peers ids ps known in
+    ((all_found P fits ps p found all, tt), named ids (without_first fits ps) (all_without P fits ps all))
+
+remove_tells : (t : Table) (now : ℕ) (id : PeerId) (reason : Reason) → Tells t (act.Do (command.Remove id reason)) (remove_peer t now id reason)
+unfolding remove_peer
+remove_tells t now id reason =
+    let a : Act = act.Do (command.Remove id reason) in
+    found_has (Tells t a) t now _ (by_id id t.live) _ (refusal t a now NoEntry)
+    (λ p found. removals_tell t a now reason (p ∷ []) (without_first (has_id id) t.live) (reply.Removed (p.serial ∷ [])) refl refl refl (λ s. refl) (λ ids known. known_found ids (has_id id) t.live p found known))
 
 either_none : (b : Bool) → ◌≡◌ {A = Option PeerId} (if b then None else None) None
 either_none true = refl
 either_none false = refl
 
-key_made_shape : (t : Table) (now : ℕ) (c : KeyConf) (i : ℕ) (p : Peer) → slice_get t.live i ≡ Some p → Shape t (act.Do (command.KeyNew c)) (key_made t now c i p)
-key_made_shape t now c i p at = inl (record { live = names_set t.live i p (record p { slots = with_slot c.slot (Some (key_of_conf t.keys_made c)) p.slots }) at refl; made = refl; none_removed = refl; notes = refl; none_made = λ s. either_none (t.keys_made == s) })
-
-key_found_shape : (t : Table) (now : ℕ) (c : KeyConf) (i : ℕ) (p : Option Peer) → slice_get t.live i ≡ p → Shape t (act.Do (command.KeyNew c)) (key_new_found t now c i p)
-key_found_shape t now c i None at = refused_still t (act.Do (command.KeyNew c)) now NoEntry
-key_found_shape t now c i (Some p) at = shape_if t (act.Do (command.KeyNew c)) (nat_le 65536 t.keys_made) (refused t now NoSpace) (key_made t now c i p) (refused_still t (act.Do (command.KeyNew c)) now NoSpace) (key_made_shape t now c i p at)
-
-key_place_shape : (t : Table) (now : ℕ) (c : KeyConf) (i : Option ℕ) → Shape t (act.Do (command.KeyNew c)) (key_new_place t now c i)
-key_place_shape t now c None = refused_still t (act.Do (command.KeyNew c)) now NoEntry
-key_place_shape t now c (Some i) = key_found_shape t now c i (slice_get t.live i) refl
+key_new_tells : (t : Table) (now : ℕ) (c : KeyConf) → Tells t (act.Do (command.KeyNew c)) (key_new t now c)
+unfolding key_new
+key_new_tells t now c =
+    let a : Act = act.Do (command.KeyNew c) in
+    found_has (Tells t a) t now _ (by_id c.peer t.live) _ (refusal t a now NoEntry)
+    (λ p found. unless_has (Tells t a) t now (key_new_checks t) (key_made t now c p) (refusal t a now)
+    (quiet t a (key_made t now c p) (map_changed name_of (has_id c.peer) (with_key c.slot (key_of_conf t.keys_made c)) t.live (λ q. refl)) refl refl refl refl (λ s. either_none (t.keys_made == s))))
 
 -- ---- look-ups
 
-look_shape : (t : Table) (a : Act) (now : ℕ) (p : Peer) (k : Option Key) → Shape t a (key_found t now p k)
-look_shape t a now p None = inl (record { live = refl; made = refl; none_removed = refl; notes = refl; none_made = λ s. refl })
-look_shape t a now p (Some k) = inl (record { live = refl; made = refl; none_removed = refl; notes = refl; none_made = λ s. refl })
+look_tells : (t : Table) (a : Act) (now : ℕ) (p : Peer) (k : Option Key) → Tells t a (key_found t now p k)
+look_tells t a now p k =
+    found_has (Tells t a) t now _ k _ (quiet t a (replied t now reply.NoKey) refl refl refl refl refl (λ s. refl))
+    (λ x found. quiet t a (replied t now (reply.Hold (hold_of p x))) refl refl refl refl refl (λ s. refl))
 
-tx_shape : (t : Table) (a : Act) (now : ℕ) (p : Option Peer) → Shape t a (tx_found t now p)
-tx_shape t a now None = inl (record { live = refl; made = refl; none_removed = refl; notes = refl; none_made = λ s. refl })
-tx_shape t a now (Some p) = look_shape t a now p p.slots.primary
-
-rx_shape : (t : Table) (a : Act) (now : ℕ) (id : KeyId) (p : Option Peer) → Shape t a (rx_found t now id p)
-rx_shape t a now id None = inl (record { live = refl; made = refl; none_removed = refl; notes = refl; none_made = λ s. refl })
-rx_shape t a now id (Some p) = look_shape t a now p (by_key_id id p.slots)
+found_tells : (t : Table) (a : Act) (now : ℕ) (p : Option Peer) (key : Peer → Option Key) → Tells t a (where_found t now reply.NoPeer p (λ q. key_found t now q (key q)))
+found_tells t a now p key = found_has (Tells t a) t now _ p _ (quiet t a (replied t now reply.NoPeer) refl refl refl refl refl (λ s. refl)) (λ q found. look_tells t a now q (key q))
 
 -- ---- what is done with a hold
-
-sent_dying_shape : (t : Table) (a : Act) (now inner outer : ℕ) (ping : Bool) (i : ℕ) (p : Option Peer) → Shape t a (sent_dying t now inner outer ping i p)
-sent_dying_shape t a now inner outer ping i None = inl (record { live = refl; made = refl; none_removed = refl; notes = refl; none_made = λ s. refl })
-sent_dying_shape t a now inner outer ping i (Some p) = inl (record { live = refl; made = refl; none_removed = refl; notes = refl; none_made = λ s. refl })
-
-sent_not_live_shape : (t : Table) (a : Act) (now inner outer : ℕ) (ping : Bool) (i : Option ℕ) → Shape t a (sent_not_live t now inner outer ping i)
-sent_not_live_shape t a now inner outer ping None = inl (record { live = refl; made = refl; none_removed = refl; notes = refl; none_made = λ s. refl })
-sent_not_live_shape t a now inner outer ping (Some i) = sent_dying_shape t a now inner outer ping i (slice_get t.dying i)
-
-sent_live_shape : (t : Table) (a : Act) (now inner outer : ℕ) (ping : Bool) (i : ℕ) (p : Option Peer) → slice_get t.live i ≡ p → Shape t a (sent_live t now inner outer ping i p)
-sent_live_shape t a now inner outer ping i None at = inl (record { live = refl; made = refl; none_removed = refl; notes = refl; none_made = λ s. refl })
-sent_live_shape t a now inner outer ping i (Some p) at = inl (record { live = names_set t.live i p (sent_peer now inner outer ping p) at refl; made = refl; none_removed = refl; notes = refl; none_made = λ s. refl })
-
-sent_shape : (t : Table) (a : Act) (now peer inner outer : ℕ) (ping : Bool) (i : Option ℕ) → Shape t a (sent_at t now peer inner outer ping i)
-sent_shape t a now peer inner outer ping None = sent_not_live_shape t a now inner outer ping (position (λ p. p.serial == peer) t.dying)
-sent_shape t a now peer inner outer ping (Some i) = sent_live_shape t a now inner outer ping i (slice_get t.live i) refl
 
 -- What a received packet keeps of a peer: its name and its slots.
 pub record Kept (p q : Peer) : Type 0 where
   pub name : name_of q ≡ name_of p
   pub slots : q.slots ≡ p.slots
 
-settled_kept : (s : Settled) (inner : ℕ) (p : Peer) → Kept p (settled_peer s inner p)
+pub settled_kept : (s : Settled) (inner : ℕ) (p : Peer) → Kept p (settled_peer s inner p)
 settled_kept settled.Deliver inner p = record { name = refl; slots = refl }
 settled_kept settled.Ping inner p = record { name = refl; slots = refl }
 settled_kept settled.NotIp inner p = record { name = refl; slots = refl }
@@ -197,57 +188,50 @@ settle_kept now live from s inner outer p =
     let last : Kept (floated live from (received_peer now outer p)) (settled_peer s inner (floated live from (received_peer now outer p))) = settled_kept s inner (floated live from (received_peer now outer p)) in
     record { name = last.name ∙ k.name; slots = last.slots ∙ k.slots }
 
-settle_dying_shape : (t : Table) (a : Act) (now : ℕ) (s : Settled) (inner outer i : ℕ) (p : Option Peer) → Shape t a (settle_dying t now s inner outer i p)
-settle_dying_shape t a now s inner outer i None = inl (record { live = refl; made = refl; none_removed = refl; notes = refl; none_made = λ s. refl })
-settle_dying_shape t a now s inner outer i (Some p) = inl (record { live = refl; made = refl; none_removed = refl; notes = refl; none_made = λ s. refl })
+-- A live or dying peer is changed and keeps its name.
+changed_tells : (t : Table) (a : Act) (now serial : ℕ) (live dying : Peer → Peer) (r : Reply) → ((p : Peer) → name_of (live p) ≡ name_of p) → removed r ≡ [] → killed_by r a ≡ [] → ((s : ℕ) → id_by r a s ≡ None) → Tells t a (replied (change_peer serial live dying t) now r)
+changed_tells t a now serial live dying r keeps none spares unmade =
+    changed_has (λ u. Tells t a (replied u now r)) t serial live dying
+    (quiet t a _ (map_changed name_of (has_serial serial) live t.live keeps) refl none refl spares unmade)
+    (quiet t a _ refl refl none refl spares unmade)
 
-settle_not_live_shape : (t : Table) (a : Act) (now : ℕ) (s : Settled) (inner outer : ℕ) (i : Option ℕ) → Shape t a (settle_not_live t now s inner outer i)
-settle_not_live_shape t a now s inner outer None = inl (record { live = refl; made = refl; none_removed = refl; notes = refl; none_made = λ s. refl })
-settle_not_live_shape t a now s inner outer (Some i) = settle_dying_shape t a now s inner outer i (slice_get t.dying i)
+spent_tells : (t : Table) (now peer key : ℕ) → Tells t (act.Spend peer key) (spend t now peer key)
+unfolding spend
+spent_tells t now peer key =
+    let a : Act = act.Spend peer key in
+    let gone : Tells t a (replied t now reply.AlreadyGone) = quiet t a (replied t now reply.AlreadyGone) refl refl refl refl refl (λ s. refl) in
+    found_has (Tells t a) t now _ (by_serial peer t.live) _ gone
+    (λ p found. found_has (Tells t a) t now _ (by_key key p.slots) _ gone (λ k has. record {
+      gone = [];
+      removed_are = refl;
+      dels = refl;
+      swaps = refl;
+      were = λ ids known. tt;
+      live = λ ids known new. rw (map_changed name_of (has_serial peer) (λ q. record q { slots = without_key key q.slots }) t.live (λ q. refl)) known;
+      grows = omega arith;
+      unmade = λ s above. refl;
+    }))
 
-settle_live_shape : (t : Table) (a : Act) (now : ℕ) (from : Option Transport) (s : Settled) (inner outer i : ℕ) (p : Option Peer) → slice_get t.live i ≡ p → Shape t a (settle_live t now from s inner outer i p)
-settle_live_shape t a now from s inner outer i None at = inl (record { live = refl; made = refl; none_removed = refl; notes = refl; none_made = λ s. refl })
-settle_live_shape t a now from s inner outer i (Some p) at = inl (record { live = names_set t.live i p (settled_peer s inner (floated t.live from (received_peer now outer p))) at (settle_kept now t.live from s inner outer p).name; made = refl; none_removed = refl; notes = refl; none_made = λ s. refl })
+-- ---- every step
 
-settle_shape : (t : Table) (a : Act) (now peer : ℕ) (from : Option Transport) (s : Settled) (inner outer : ℕ) (i : Option ℕ) → Shape t a (settle_at t now peer from s inner outer i)
-settle_shape t a now peer from s inner outer None = settle_not_live_shape t a now s inner outer (position (λ p. p.serial == peer) t.dying)
-settle_shape t a now peer from s inner outer (Some i) = settle_live_shape t a now from s inner outer i (slice_get t.live i) refl
+tells : (t : Table) (now : ℕ) (a : Act) → Tells t a (act_step t now a)
+unfolding peer_new peer_get tx_look rx_look sent settle released key_released
+tells t now (act.Do (command.PeerNew a)) = found_has (Tells t (act.Do (command.PeerNew a))) t now _ a.remote _ (refusal t (act.Do (command.PeerNew a)) now Invalid) (λ remote is. new_tells t now a remote)
+tells t now (act.Do (command.PeerGet id)) =
+    let a : Act = act.Do (command.PeerGet id) in
+    found_has (Tells t a) t now _ (by_id id t.live) _ (refusal t a now NoEntry) (λ p found. quiet t a _ refl refl refl refl refl (λ s. refl))
+tells t now (act.Do (command.Remove id reason)) = remove_tells t now id reason
+tells t now (act.Do (command.KeyNew c)) = key_new_tells t now c
+tells t now (act.TxLook a) = found_tells t (act.TxLook a) now (by_vpn a t.live) (λ p. p.slots.primary)
+tells t now (act.RxLook id key_id from) = found_tells t (act.RxLook id key_id from) now (rx_peer id from t.live) (λ p. by_key_id key_id p.slots)
+tells t now (act.Sent peer inner outer ping) =
+    changed_tells t (act.Sent peer inner outer ping) now peer (sent_peer now inner outer ping) (sent_peer now inner outer ping) reply.Done (λ p. refl) refl refl (λ s. refl)
+tells t now (act.Settle peer from k inner outer) =
+    let s : Settled = settled_as peer k t.live in
+    changed_tells t (act.Settle peer from k inner outer) now peer _ _ (reply.Settled s) (λ p. (settle_kept now t.live from s inner outer p).name) refl refl (λ n. refl)
+tells t now (act.Spend peer key) = spent_tells t now peer key
+tells t now (act.Released serial) = quiet t (act.Released serial) _ refl refl refl refl refl (λ s. refl)
+tells t now (act.KeyReleased serial) = quiet t (act.KeyReleased serial) _ refl refl refl refl refl (λ s. refl)
 
-spent_key_shape : (t : Table) (a : Act) (now i : ℕ) (p : Peer) (key : ℕ) (k : Option Key) → slice_get t.live i ≡ Some p → Shape t a (spent_key t now i p key k)
-spent_key_shape t a now i p key None at = inl (record { live = refl; made = refl; none_removed = refl; notes = refl; none_made = λ s. refl })
-spent_key_shape t a now i p key (Some k) at = inl (record { live = names_set t.live i p (record p { slots = without_key key p.slots }) at refl; made = refl; none_removed = refl; notes = refl; none_made = λ s. refl })
-
-spent_found_shape : (t : Table) (a : Act) (now i key : ℕ) (p : Option Peer) → slice_get t.live i ≡ p → Shape t a (spent_found t now i key p)
-spent_found_shape t a now i key None at = inl (record { live = refl; made = refl; none_removed = refl; notes = refl; none_made = λ s. refl })
-spent_found_shape t a now i key (Some p) at = spent_key_shape t a now i p key (by_key key p.slots) at
-
-spent_shape : (t : Table) (a : Act) (now key : ℕ) (i : Option ℕ) → Shape t a (spent_at t now key i)
-spent_shape t a now key None = inl (record { live = refl; made = refl; none_removed = refl; notes = refl; none_made = λ s. refl })
-spent_shape t a now key (Some i) = spent_found_shape t a now i key (slice_get t.live i) refl
-
--- ---- releases, and every step
-
-released_shape : (t : Table) (a : Act) (now serial : ℕ) (i : Option ℕ) → Shape t a (released_at t now serial i)
-released_shape t a now serial None = inl (record { live = refl; made = refl; none_removed = refl; notes = refl; none_made = λ s. refl })
-released_shape t a now serial (Some i) = inl (record { live = refl; made = refl; none_removed = refl; notes = refl; none_made = λ s. refl })
-
-key_released_shape : (t : Table) (a : Act) (now serial : ℕ) (i : Option ℕ) → Shape t a (key_released_at t now serial i)
-key_released_shape t a now serial None = inl (record { live = refl; made = refl; none_removed = refl; notes = refl; none_made = λ s. refl })
-key_released_shape t a now serial (Some i) = inl (record { live = refl; made = refl; none_removed = refl; notes = refl; none_made = λ s. refl })
-
-shape : (t : Table) (now : ℕ) (a : Act) → Shape t a (act_step t now a)
-unfolding peer_new peer_get remove_peer key_new tx_look rx_look sent settle spend released key_released
-shape t now (act.Do (command.PeerNew a)) = new_shape t now a a.remote
-shape t now (act.Do (command.PeerGet id)) = get_shape t (act.Do (command.PeerGet id)) now (by_id id t.live)
-shape t now (act.Do (command.Remove id reason)) = at_shape t now id reason (position (λ p. p.id.number == id.number) t.live)
-shape t now (act.Do (command.KeyNew c)) = key_place_shape t now c (position (λ p. p.id.number == c.peer.number) t.live)
-shape t now (act.TxLook a) = tx_shape t (act.TxLook a) now (by_vpn a t.live)
-shape t now (act.RxLook id key_id from) = rx_shape t (act.RxLook id key_id from) now key_id (rx_peer id from t.live)
-shape t now (act.Sent peer inner outer ping) = sent_shape t (act.Sent peer inner outer ping) now peer inner outer ping (position (λ p. p.serial == peer) t.live)
-shape t now (act.Settle peer from k inner outer) = settle_shape t (act.Settle peer from k inner outer) now peer from (settled_as peer k t.live) inner outer (position (λ p. p.serial == peer) t.live)
-shape t now (act.Spend peer key) = spent_shape t (act.Spend peer key) now key (position (λ p. p.serial == peer) t.live)
-shape t now (act.Released serial) = released_shape t (act.Released serial) now serial (position (λ p. p.serial == serial) t.dying)
-shape t now (act.KeyReleased serial) = key_released_shape t (act.KeyReleased serial) now serial (position (λ k. k.serial == serial) t.retired)
-
-pub step_shape : (t : Table) (e : Entry) → Shape t e.call.act (step t e.call)
-step_shape t e = shape t _ e.call.act
+pub step_tells : (t : Table) (call : Call) → Tells t call.act (step t call)
+step_tells t call = tells t _ call.act

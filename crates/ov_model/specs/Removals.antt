@@ -1,8 +1,8 @@
--- What a finished run tells of the peers that it removed, their notes, and that no peer is left dying and
--- no key retired.
+-- What a finished run tells of the peers that it removed and the keys that it killed, their notes, and that no
+-- peer is left dying and no key retired.
 use Rattle.std.specs.Prelude.{ℕ, ◌≡◌, ◌<◌, List, [], ◌∷◌, ◌++◌, Bool, true, false, Option, Some, None, if◌then◌else◌, ◌==◌, nat_eq, length, filter, map, slice_get}
 use Rattle.std.specs.Option.{option_or}
-use Rattle.std.specs.List.{IsDistinct}
+use Rattle.std.specs.List.{IsDistinct, AllByRecursion}
 use Rattle.ov_model.specs.declared.ident.PeerId.{PeerId}
 use Rattle.ov_model.specs.declared.command.Reason.{Reason}
 use Rattle.ov_model.specs.declared.command.Command.TheVariants as command
@@ -43,13 +43,35 @@ abbrev pub removed_in : List Entry → List ℕ
 removed_in [] = []
 removed_in (e ∷ es) = removed e.reply ++ removed_in es
 
+-- The key that an entry killed: the one that its Spend names, where the reply is Killed.
+abbrev pub spent_by : Act → List ℕ
+spent_by (act.Spend peer key) = key ∷ []
+spent_by _ = []
+
+abbrev pub killed_by : Reply → Act → List ℕ
+killed_by reply.Killed a = spent_by a
+killed_by _ a = []
+
+abbrev pub Kills : Entry → ℕ → Type 0
+Kills e key = killed_by e.reply e.call.act ≡ key ∷ []
+
 abbrev pub is_peer_del : NoteBody → Bool
 is_peer_del (note.PeerDel id reason) = true
 is_peer_del _ = false
 
--- The peer-del notes with an entry's number, in order.
+abbrev pub is_key_swap : NoteBody → Bool
+is_key_swap (note.KeySwap id key_id) = true
+is_key_swap _ = false
+
+-- The notes of one kind with an entry's number, in order.
+abbrev pub noted : (NoteBody → Bool) → List Note → ℕ → List NoteBody
+noted is_such notes n = filter is_such (map (λ x. x.body) (filter (λ x. x.entry == n) notes))
+
 abbrev pub peer_dels : List Note → ℕ → List NoteBody
-peer_dels notes n = filter is_peer_del (map (λ x. x.body) (filter (λ x. x.entry == n) notes))
+peer_dels notes n = noted is_peer_del notes n
+
+abbrev pub key_swaps : List Note → ℕ → List NoteBody
+key_swaps notes n = noted is_key_swap notes n
 
 -- The note that tells of a removed peer.
 abbrev pub del_note : Option PeerId → Option Reason → Option NoteBody
@@ -58,10 +80,14 @@ del_note _ _ = None
 
 -- Each entry's peer-del notes are those of the peers that its reply says were removed, in the reply's
 -- order, with their ids and the act's reason; an entry that removes none has none. No serial is
--- removed twice.
+-- removed twice. An entry that killed a key has exactly one key-swap note, and no other entry has one; two
+-- entries that killed the same key are one and the same. Every note is an entry's.
 pub record RemovalsNoted (journal : List Entry) (notes : List Note) : Type 0 where
   pub each : (n : ℕ) (e : Entry) → slice_get journal n ≡ Some e → map (λ b. Some b) (peer_dels notes n) ≡ map (λ serial. del_note (id_in journal serial) (reason_of e.call.act)) (removed e.reply)
   pub once : IsDistinct nat_eq (removed_in journal)
+  pub swaps : (n : ℕ) (e : Entry) → slice_get journal n ≡ Some e → length (key_swaps notes n) ≡ length (killed_by e.reply e.call.act)
+  pub killed_once : (i j key : ℕ) (a b : Entry) → slice_get journal i ≡ Some a → slice_get journal j ≡ Some b → Kills a key → Kills b key → i ≡ j
+  pub within : AllByRecursion (λ x. x.entry < length journal) notes
 
 -- Each removed peer was let go, and each key that was taken out of its slot: the last table of the run has
 -- no dying peer and no retired key.

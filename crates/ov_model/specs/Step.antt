@@ -1,6 +1,6 @@
 -- One step of the serial peer table: the table after it, its reply, the keys that it took out of a
 -- slot, and its notifications. One definition for each act, its refusals in their order.
-use Rattle.std.specs.Prelude.{ℕ, ◌+◌, ◌-◌, ◌^◌, ◌≡◌, max, min, List, [], ◌∷◌, ◌++◌, Bool, true, false, Option, Some, None, is_some, is_none, if◌then◌else◌, nat_le, ◌==◌, ◌&&◌, ◌||◌, position, remove, slice_get, slice_set, unwrap_or}
+use Rattle.std.specs.Prelude.{ℕ, ◌+◌, ◌-◌, ◌^◌, ◌≡◌, max, min, List, [], ◌∷◌, ◌++◌, Bool, true, false, Option, Some, None, is_some, is_none, if◌then◌else◌, nat_le, ◌==◌, ◌&&◌, ◌||◌, map, unwrap_or}
 use Rattle.std.specs.List.{list_any}
 use Rattle.ov_base.specs.declared.address.Addr.{Addr}
 use Rattle.ov_base.specs.declared.address.Transport.{Transport}
@@ -9,6 +9,7 @@ use Rattle.ov_model.specs.declared.ident.KeyId.{KeyId}
 use Rattle.ov_model.specs.declared.command.Keepalive.{Keepalive}
 use Rattle.ov_model.specs.declared.command.Attrs.{Attrs}
 use Rattle.ov_model.specs.declared.command.KeyConf.{KeyConf}
+use Rattle.ov_model.specs.declared.command.Slot.{Slot}
 use Rattle.ov_model.specs.declared.command.Reason.{Reason}
 use Rattle.ov_model.specs.declared.command.Command.{Command}
 use Rattle.ov_model.specs.declared.command.Command.TheVariants as command
@@ -27,7 +28,8 @@ use Rattle.ov_model.specs.declared.reply.Reply.{Reply}
 use Rattle.ov_model.specs.declared.reply.Reply.TheVariants as reply
 use Rattle.ov_model.specs.declared.note.NoteBody.{NoteBody}
 use Rattle.ov_model.specs.declared.note.NoteBody.TheVariants as note
-use Rattle.ov_model.specs.Tables.{Peer, Key, Table, by_id, by_remote, by_vpn, shares_vpn, view_of, no_keys, in_slot, with_slot, key_if_any, keys_in, key_serials, by_key_id, by_key, without_key}
+use Rattle.ov_model.specs.Limits.{most_peers, most_keys, greatest_peer_id}
+use Rattle.ov_model.specs.Tables.{Peer, Key, Table, change_first, without_first, has_id, has_serial, by_id, by_serial, by_remote, by_vpn, shares_vpn, view_of, bare, serials_of, no_keys, in_slot, with_slot, key_if_any, keys_of, key_serials, by_key_id, by_key, without_key}
 
 -- after: the table; taken: the serials of the keys that left their slot, in order; notes: in order.
 pub record Outcome : Type 0 where
@@ -36,12 +38,30 @@ pub record Outcome : Type 0 where
   pub taken : List ℕ
   pub notes : List NoteBody
 
--- A reply that changes nothing but the moment, and a refusal.
+-- ---- outcomes
+
+-- A reply: of the given table the moment alone changes, no key leaves its slot, and nothing is told.
 abbrev pub replied : Table → ℕ → Reply → Outcome
 replied t now r = record { after = record t { moment = now }; reply = r; taken = []; notes = [] }
 
 abbrev pub refused : Table → ℕ → Errno → Outcome
 refused t now e = replied t now (reply.Refused e)
+
+-- A refusal with whether it applies.
+pub data Check : Type 0 where
+  refuse : Errno → (applies : Bool) → Check
+
+-- The first refusal that applies, and where none does, the outcome.
+abbrev pub unless : Table → ℕ → List Check → Outcome → Outcome
+unless t now [] o = o
+unless t now (refuse e applies ∷ checks) o = if applies then refused t now e else unless t now checks o
+
+-- What is done with what was found, or a reply where nothing was.
+abbrev pub where_found : {X : Type 0} → Table → ℕ → Reply → Option X → (X → Outcome) → Outcome
+where_found t now missing None next = replied t now missing
+where_found t now missing (Some x) next = next x
+
+-- ---- commands
 
 abbrev pub no_counts : Counts
 no_counts = record { vpn_rx_bytes = 0; vpn_rx_packets = 0; vpn_tx_bytes = 0; vpn_tx_packets = 0; link_rx_bytes = 0; link_rx_packets = 0; link_tx_bytes = 0; link_tx_packets = 0 }
@@ -53,80 +73,67 @@ no_keepalive = record { interval = 0; timeout = 0 }
 abbrev pub peer_of : ℕ → ℕ → Attrs → Transport → Peer
 peer_of serial now a remote = record { serial = serial; id = a.id; remote = remote; vpn4 = a.vpn4; vpn6 = a.vpn6; keepalive = unwrap_or a.keepalive no_keepalive; counts = no_counts; last_received = now; last_sent = now; slots = no_keys }
 
--- peer-new. Ids, VPN addresses and remote transports are unique among the live peers; at most 4,096
--- peers are made.
-abbrev pub peer_new_at : Table → ℕ → Attrs → Transport → Outcome
-peer_new_at t now a remote =
-    if is_none a.vpn4 && is_none a.vpn6 then refused t now Invalid else
-    (if is_some (by_id a.id t.live) then refused t now Exists else
-    (if list_any (shares_vpn a) t.live then refused t now Exists else
-    (if is_some (by_remote remote t.live) then refused t now Exists else
-    (if nat_le 4096 t.made then refused t now NoSpace else
-    record { after = record t { live = t.live ++ peer_of t.made now a remote ∷ []; made = t.made + 1; moment = now }; reply = reply.Made t.made; taken = []; notes = [] }))))
+-- peer-new and its refusals in their order. Ids, VPN addresses and remote transports are unique among the live
+-- peers; at most 4,096 peers are made.
+abbrev pub peer_new_checks : Table → Attrs → Transport → List Check
+peer_new_checks t a remote =
+    refuse Invalid (is_none a.vpn4 && is_none a.vpn6) ∷
+    refuse Exists (is_some (by_id a.id t.live)) ∷
+    refuse Exists (list_any (shares_vpn a) t.live) ∷
+    refuse Exists (is_some (by_remote remote t.live)) ∷
+    refuse NoSpace (nat_le most_peers t.made) ∷ []
 
-abbrev pub peer_new_with : Table → ℕ → Attrs → Option Transport → Outcome
-peer_new_with t now a None = refused t now Invalid
-peer_new_with t now a (Some remote) = peer_new_at t now a remote
+abbrev pub peer_made : Table → ℕ → Attrs → Transport → Outcome
+peer_made t now a remote = replied (record t { live = t.live ++ peer_of t.made now a remote ∷ []; made = t.made + 1 }) now (reply.Made t.made)
+
+abbrev pub peer_new_at : Table → ℕ → Attrs → Transport → Outcome
+peer_new_at t now a remote = unless t now (peer_new_checks t a remote) (peer_made t now a remote)
 
 unfoldable pub peer_new : Table → ℕ → Attrs → Outcome
-peer_new t now a = peer_new_with t now a a.remote
+peer_new t now a = where_found t now (reply.Refused Invalid) a.remote (peer_new_at t now a)
 
 -- peer-get.
-abbrev pub peer_get_of : Table → ℕ → Option Peer → Outcome
-peer_get_of t now None = refused t now NoEntry
-peer_get_of t now (Some p) = replied t now (reply.Peer (view_of p))
-
 unfoldable pub peer_get : Table → ℕ → PeerId → Outcome
-peer_get t now id = peer_get_of t now (by_id id t.live)
+peer_get t now id = where_found t now (reply.Refused NoEntry) (by_id id t.live) (λ p. replied t now (reply.Peer (view_of p)))
 
--- The removal of the live peer at a place of the list: it joins the dying list, the keys of its slots
--- join the retired ones, and one peer-del note tells its id and the reason.
-abbrev pub removed_peer : Table → ℕ → Reason → ℕ → Peer → Outcome
-removed_peer t now reason i p = record {
-  after = record t { live = remove t.live i; dying = t.dying ++ record p { slots = no_keys } ∷ []; retired = t.retired ++ keys_in p.slots; moment = now };
-  reply = reply.Removed (p.serial ∷ []);
-  taken = key_serials (keys_in p.slots);
-  notes = note.PeerDel p.id reason ∷ [];
+-- The removal of the live peers `gone`, in this order, which leaves the live peers `left`: they join the
+-- dying list, the keys of their slots join the retired ones, and one peer-del note each tells their ids and
+-- the reason.
+abbrev pub removals : Table → ℕ → Reason → (gone left : List Peer) → Reply → Outcome
+removals t now reason gone left r = record {
+  after = record t { live = left; dying = t.dying ++ map bare gone; retired = t.retired ++ keys_of gone; moment = now };
+  reply = r;
+  taken = key_serials (keys_of gone);
+  notes = map (λ p. note.PeerDel p.id reason) gone;
 }
-
-abbrev pub removed_found : Table → ℕ → Reason → ℕ → Option Peer → Outcome
-removed_found t now reason i None = refused t now NoEntry
-removed_found t now reason i (Some p) = removed_peer t now reason i p
-
-abbrev pub removed_at : Table → ℕ → Reason → Option ℕ → Outcome
-removed_at t now reason None = refused t now NoEntry
-removed_at t now reason (Some i) = removed_found t now reason i (slice_get t.live i)
 
 -- peer-del, with the reason that its note gives.
 unfoldable pub remove_peer : Table → ℕ → PeerId → Reason → Outcome
-remove_peer t now id reason = removed_at t now reason (position (λ p. p.id.number == id.number) t.live)
+remove_peer t now id reason = where_found t now (reply.Refused NoEntry) (by_id id t.live)
+    (λ p. removals t now reason (p ∷ []) (without_first (has_id id) t.live) (reply.Removed (serials_of (p ∷ []))))
 
 -- key-new puts a key into a slot of the live peer with an id; the key that stood there is retired. At
 -- most 65,536 keys are made.
 abbrev pub key_of_conf : ℕ → KeyConf → Key
 key_of_conf serial c = record { serial = serial; key_id = c.key_id; material = record { encrypt = c.encrypt; decrypt = c.decrypt } }
 
-abbrev pub key_made : Table → ℕ → KeyConf → ℕ → Peer → Outcome
-key_made t now c i p = record {
-  after = record t { live = slice_set t.live i (record p { slots = with_slot c.slot (Some (key_of_conf t.keys_made c)) p.slots }); retired = t.retired ++ key_if_any (in_slot c.slot p.slots); keys_made = t.keys_made + 1; moment = now };
+abbrev pub with_key : Slot → Key → Peer → Peer
+with_key slot k p = record p { slots = with_slot slot (Some k) p.slots }
+
+abbrev pub key_made : Table → ℕ → KeyConf → Peer → Outcome
+key_made t now c p = record {
+  after = record t { live = change_first (has_id c.peer) (with_key c.slot (key_of_conf t.keys_made c)) t.live; retired = t.retired ++ key_if_any (in_slot c.slot p.slots); keys_made = t.keys_made + 1; moment = now };
   reply = reply.Made t.keys_made;
   taken = key_serials (key_if_any (in_slot c.slot p.slots));
   notes = [];
 }
 
-abbrev pub key_new_at : Table → ℕ → KeyConf → ℕ → Peer → Outcome
-key_new_at t now c i p = if nat_le 65536 t.keys_made then refused t now NoSpace else key_made t now c i p
-
-abbrev pub key_new_found : Table → ℕ → KeyConf → ℕ → Option Peer → Outcome
-key_new_found t now c i None = refused t now NoEntry
-key_new_found t now c i (Some p) = key_new_at t now c i p
-
-abbrev pub key_new_place : Table → ℕ → KeyConf → Option ℕ → Outcome
-key_new_place t now c None = refused t now NoEntry
-key_new_place t now c (Some i) = key_new_found t now c i (slice_get t.live i)
+abbrev pub key_new_checks : Table → List Check
+key_new_checks t = refuse NoSpace (nat_le most_keys t.keys_made) ∷ []
 
 unfoldable pub key_new : Table → ℕ → KeyConf → Outcome
-key_new t now c = key_new_place t now c (position (λ p. p.id.number == c.peer.number) t.live)
+key_new t now c = where_found t now (reply.Refused NoEntry) (by_id c.peer t.live)
+    (λ p. unless t now (key_new_checks t) (key_made t now c p))
 
 -- ---- look-ups
 
@@ -135,31 +142,31 @@ abbrev pub hold_of : Peer → Key → HoldView
 hold_of p k = record { peer = p.serial; id = p.id; key = k.serial; key_id = k.key_id; to = p.remote }
 
 abbrev pub key_found : Table → ℕ → Peer → Option Key → Outcome
-key_found t now p None = replied t now reply.NoKey
-key_found t now p (Some k) = replied t now (reply.Hold (hold_of p k))
+key_found t now p k = where_found t now reply.NoKey k (λ x. replied t now (reply.Hold (hold_of p x)))
 
 -- Where an inner packet goes: the live peer with the VPN address that is its next hop, and that peer's
 -- primary key.
-abbrev pub tx_found : Table → ℕ → Option Peer → Outcome
-tx_found t now None = replied t now reply.NoPeer
-tx_found t now (Some p) = key_found t now p p.slots.primary
-
 unfoldable pub tx_look : Table → ℕ → Addr → Outcome
-tx_look t now a = tx_found t now (by_vpn a t.live)
+tx_look t now a = where_found t now reply.NoPeer (by_vpn a t.live) (λ p. key_found t now p p.slots.primary)
 
 -- Whose a datagram is: the live peer with the id of its head or, where that is 16777215, with the
 -- transport that it came from; and that peer's key with the key id.
 abbrev pub rx_peer : PeerId → Transport → List Peer → Option Peer
-rx_peer id from peers = if id.number == 16777215 then by_remote from peers else by_id id peers
-
-abbrev pub rx_found : Table → ℕ → KeyId → Option Peer → Outcome
-rx_found t now key_id None = replied t now reply.NoPeer
-rx_found t now key_id (Some p) = key_found t now p (by_key_id key_id p.slots)
+rx_peer id from peers = if id.number == greatest_peer_id then by_remote from peers else by_id id peers
 
 unfoldable pub rx_look : Table → ℕ → PeerId → KeyId → Transport → Outcome
-rx_look t now id key_id from = rx_found t now key_id (rx_peer id from t.live)
+rx_look t now id key_id from = where_found t now reply.NoPeer (rx_peer id from t.live) (λ p. key_found t now p (by_key_id key_id p.slots))
 
 -- ---- what is done with a hold
+
+abbrev pub is_there : ℕ → List Peer → Bool
+is_there serial peers = list_any (has_serial serial) peers
+
+-- The live peer with a serial is changed or, where none is live, the dying one.
+abbrev pub change_peer : ℕ → (live dying : Peer → Peer) → Table → Table
+change_peer serial live dying t =
+    if is_there serial t.live then record t { live = change_first (has_serial serial) live t.live } else
+    record t { dying = change_first (has_serial serial) dying t.dying }
 
 -- A count goes up and stays at the greatest 64-bit number.
 abbrev pub up : ℕ → ℕ → ℕ
@@ -174,25 +181,8 @@ sent_counts inner outer ping c =
 abbrev pub sent_peer : (now inner outer : ℕ) → Bool → Peer → Peer
 sent_peer now inner outer ping p = record p { last_sent = now; counts = sent_counts inner outer ping p.counts }
 
--- The peer is looked for by its serial among the live ones, and then among the dying ones.
-abbrev pub sent_dying : Table → (now inner outer : ℕ) → Bool → ℕ → Option Peer → Outcome
-sent_dying t now inner outer ping i None = replied t now reply.Done
-sent_dying t now inner outer ping i (Some p) = record { after = record t { dying = slice_set t.dying i (sent_peer now inner outer ping p); moment = now }; reply = reply.Done; taken = []; notes = [] }
-
-abbrev pub sent_not_live : Table → (now inner outer : ℕ) → Bool → Option ℕ → Outcome
-sent_not_live t now inner outer ping None = replied t now reply.Done
-sent_not_live t now inner outer ping (Some i) = sent_dying t now inner outer ping i (slice_get t.dying i)
-
-abbrev pub sent_live : Table → (now inner outer : ℕ) → Bool → ℕ → Option Peer → Outcome
-sent_live t now inner outer ping i None = replied t now reply.Done
-sent_live t now inner outer ping i (Some p) = record { after = record t { live = slice_set t.live i (sent_peer now inner outer ping p); moment = now }; reply = reply.Done; taken = []; notes = [] }
-
-abbrev pub sent_at : Table → (now peer inner outer : ℕ) → Bool → Option ℕ → Outcome
-sent_at t now peer inner outer ping None = sent_not_live t now inner outer ping (position (λ p. p.serial == peer) t.dying)
-sent_at t now peer inner outer ping (Some i) = sent_live t now inner outer ping i (slice_get t.live i)
-
 unfoldable pub sent : Table → (now peer inner outer : ℕ) → Bool → Outcome
-sent t now peer inner outer ping = sent_at t now peer inner outer ping (position (λ p. p.serial == peer) t.live)
+sent t now peer inner outer ping = replied (change_peer peer (sent_peer now inner outer ping) (sent_peer now inner outer ping) t) now reply.Done
 
 -- A datagram was received: the link counts it. A packet that is delivered counts inside the tunnel too.
 abbrev pub received_peer : (now outer : ℕ) → Peer → Peer
@@ -218,64 +208,39 @@ settled_as peer (kind.From a) live = if is_serial peer (by_vpn a live) then sett
 settled_as peer kind.Ping live = settled.Ping
 settled_as peer kind.NotIp live = settled.NotIp
 
-abbrev pub settle_dying : Table → (now : ℕ) → Settled → (inner outer i : ℕ) → Option Peer → Outcome
-settle_dying t now s inner outer i None = replied t now (reply.Settled s)
-settle_dying t now s inner outer i (Some p) = record { after = record t { dying = slice_set t.dying i (settled_peer s inner (received_peer now outer p)); moment = now }; reply = reply.Settled s; taken = []; notes = [] }
-
-abbrev pub settle_not_live : Table → (now : ℕ) → Settled → (inner outer : ℕ) → Option ℕ → Outcome
-settle_not_live t now s inner outer None = replied t now (reply.Settled s)
-settle_not_live t now s inner outer (Some i) = settle_dying t now s inner outer i (slice_get t.dying i)
-
-abbrev pub settle_live : Table → (now : ℕ) → Option Transport → Settled → (inner outer i : ℕ) → Option Peer → Outcome
-settle_live t now from s inner outer i None = replied t now (reply.Settled s)
-settle_live t now from s inner outer i (Some p) = record { after = record t { live = slice_set t.live i (settled_peer s inner (floated t.live from (received_peer now outer p))); moment = now }; reply = reply.Settled s; taken = []; notes = [] }
-
-abbrev pub settle_at : Table → (now peer : ℕ) → Option Transport → Settled → (inner outer : ℕ) → Option ℕ → Outcome
-settle_at t now peer from s inner outer None = settle_not_live t now s inner outer (position (λ p. p.serial == peer) t.dying)
-settle_at t now peer from s inner outer (Some i) = settle_live t now from s inner outer i (slice_get t.live i)
-
 unfoldable pub settle : Table → (now peer : ℕ) → Option Transport → InnerKind → (inner outer : ℕ) → Outcome
-settle t now peer from k inner outer = settle_at t now peer from (settled_as peer k t.live) inner outer (position (λ p. p.serial == peer) t.live)
+settle t now peer from k inner outer =
+    let s : Settled = settled_as peer k t.live in
+    replied (change_peer peer
+    (λ p. settled_peer s inner (floated t.live from (received_peer now outer p)))
+    (λ p. settled_peer s inner (received_peer now outer p)) t) now (reply.Settled s)
 
 -- A key that gave its last packet id is taken out of its slot, where it stands in one of a live peer, and
 -- one key-swap note tells so.
-abbrev pub spent_key : Table → (now i : ℕ) → Peer → (key : ℕ) → Option Key → Outcome
-spent_key t now i p key None = replied t now reply.AlreadyGone
-spent_key t now i p key (Some k) = record {
-  after = record t { live = slice_set t.live i (record p { slots = without_key key p.slots }); retired = t.retired ++ k ∷ []; moment = now };
+abbrev pub spent_key : Table → (now peer key : ℕ) → Peer → Key → Outcome
+spent_key t now peer key p k = record {
+  after = record t { live = change_first (has_serial peer) (λ q. record q { slots = without_key key q.slots }) t.live; retired = t.retired ++ k ∷ []; moment = now };
   reply = reply.Killed;
   taken = key ∷ [];
   notes = note.KeySwap p.id k.key_id ∷ [];
 }
 
-abbrev pub spent_found : Table → (now i key : ℕ) → Option Peer → Outcome
-spent_found t now i key None = replied t now reply.AlreadyGone
-spent_found t now i key (Some p) = spent_key t now i p key (by_key key p.slots)
-
-abbrev pub spent_at : Table → (now key : ℕ) → Option ℕ → Outcome
-spent_at t now key None = replied t now reply.AlreadyGone
-spent_at t now key (Some i) = spent_found t now i key (slice_get t.live i)
-
 unfoldable pub spend : Table → (now peer key : ℕ) → Outcome
-spend t now peer key = spent_at t now key (position (λ p. p.serial == peer) t.live)
+spend t now peer key = where_found t now reply.AlreadyGone (by_serial peer t.live)
+    (λ p. where_found t now reply.AlreadyGone (by_key key p.slots) (spent_key t now peer key p))
 
 -- ---- releases
 
 -- A dying peer is let go.
-abbrev pub released_at : Table → ℕ → ℕ → Option ℕ → Outcome
-released_at t now serial None = replied t now (reply.Released serial)
-released_at t now serial (Some i) = record { after = record t { dying = remove t.dying i; moment = now }; reply = reply.Released serial; taken = []; notes = [] }
-
 unfoldable pub released : Table → ℕ → ℕ → Outcome
-released t now serial = released_at t now serial (position (λ p. p.serial == serial) t.dying)
+released t now serial = replied (record t { dying = without_first (has_serial serial) t.dying }) now (reply.Released serial)
 
 -- A retired key is let go.
-abbrev pub key_released_at : Table → ℕ → ℕ → Option ℕ → Outcome
-key_released_at t now serial None = replied t now (reply.KeyReleased serial)
-key_released_at t now serial (Some i) = record { after = record t { retired = remove t.retired i; moment = now }; reply = reply.KeyReleased serial; taken = []; notes = [] }
+abbrev pub has_key_serial : ℕ → Key → Bool
+has_key_serial serial k = k.serial == serial
 
 unfoldable pub key_released : Table → ℕ → ℕ → Outcome
-key_released t now serial = key_released_at t now serial (position (λ k. k.serial == serial) t.retired)
+key_released t now serial = replied (record t { retired = without_first (has_key_serial serial) t.retired }) now (reply.KeyReleased serial)
 
 -- ---- every step
 
@@ -301,11 +266,8 @@ step t c = act_step t (max t.moment c.at) c.act
 
 -- What must hold where an act is made: what a hold names is still there, and only a dying peer and a
 -- retired key are let go.
-abbrev pub is_there : ℕ → List Peer → Bool
-is_there serial peers = list_any (λ p. p.serial == serial) peers
-
 abbrev pub is_retired : ℕ → List Key → Bool
-is_retired serial keys = list_any (λ k. k.serial == serial) keys
+is_retired serial keys = list_any (has_key_serial serial) keys
 
 abbrev pub has_key : ℕ → Peer → Bool
 has_key key p = is_some (by_key key p.slots)

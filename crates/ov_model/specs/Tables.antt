@@ -60,6 +60,17 @@ pub record Table : Type 0 where
 abbrev pub empty_table : Table
 empty_table = record { live = []; dying = []; retired = []; made = 0; keys_made = 0; moment = 0 }
 
+-- ---- members of a list
+
+-- The first member that fits is changed, or taken out. A list in which none fits stays.
+abbrev pub change_first : {X : Type 0} → (X → Bool) → (X → X) → List X → List X
+change_first fits change [] = []
+change_first fits change (x ∷ xs) = if fits x then change x ∷ xs else x ∷ change_first fits change xs
+
+abbrev pub without_first : {X : Type 0} → (X → Bool) → List X → List X
+without_first fits [] = []
+without_first fits (x ∷ xs) = if fits x then xs else x ∷ without_first fits xs
+
 -- ---- keys and slots
 
 abbrev pub no_keys : Slots
@@ -102,14 +113,32 @@ without_key key s =
     if is_key key s.primary then record s { primary = None } else
     (if is_key key s.secondary then record s { secondary = None } else s)
 
+-- The keys of the slots of some peers, in their order.
+abbrev pub keys_of : List Peer → List Key
+keys_of [] = []
+keys_of (p ∷ ps) = keys_in p.slots ++ keys_of ps
+
 -- ---- peers
 
+-- A removed peer keeps all but its keys.
+abbrev pub bare : Peer → Peer
+bare p = record p { slots = no_keys }
+
+abbrev pub serials_of : List Peer → List ℕ
+serials_of peers = map (λ p. p.serial) peers
+
 -- The live peer with an id, or with a serial: the first in the order of making.
+abbrev pub has_id : PeerId → Peer → Bool
+has_id id p = p.id.number == id.number
+
+abbrev pub has_serial : ℕ → Peer → Bool
+has_serial serial p = p.serial == serial
+
 abbrev pub by_id : PeerId → List Peer → Option Peer
-by_id id peers = find (λ p. p.id.number == id.number) peers
+by_id id peers = find (has_id id) peers
 
 abbrev pub by_serial : ℕ → List Peer → Option Peer
-by_serial serial peers = find (λ p. p.serial == serial) peers
+by_serial serial peers = find (has_serial serial) peers
 
 -- The first peer with a remote transport.
 abbrev pub by_remote : Transport → List Peer → Option Peer

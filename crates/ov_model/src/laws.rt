@@ -10,8 +10,9 @@ ghost use Rattle.ov_model.specs.Delivery.{DeliversExactly, DeliversReceived, Del
 ghost use Rattle.ov_model.specs.Lifetime.{PeersStayReleased, KeysStayReleased};
 
 /// In every run the notes of each removal are those of the removed peers, in order, with the reason,
-/// and no peer is removed twice. No removed peer and no key that left its slot is left at the end
-/// exactly where each of them was let go once.
+/// and no peer is removed twice. Each entry that killed a key has exactly one key-swap note, no other entry
+/// has one, and no key is killed by two entries. No removed peer and no key that left its slot is left at
+/// the end exactly where each of them was let go once.
 pub fn removals()
     ensures noted { (journal : List Entry) → IsRun journal → RemovalsNoted journal (notes_of journal) }
     ensures released { (journal : List Entry) → IsRun journal → AllReleased journal ↔ EachReleasedOnce journal }

@@ -10,8 +10,8 @@ use Rattle.ov_model.specs.declared.ident.PeerId.{PeerId}
 use Rattle.ov_model.specs.declared.ident.KeyId.{KeyId}
 use Rattle.ov_model.specs.declared.reply.HoldView.{HoldView}
 use Rattle.ov_model.specs.declared.reply.Reply.TheVariants as reply
-use Rattle.ov_model.specs.Tables.{Material, Peer, Key, Table, keys_in, by_key_id, by_vpn, has_vpn, by_remote, by_id}
-use Rattle.ov_model.specs.Step.{Outcome, has_key, hold_of, key_found, tx_found, tx_look, rx_found, rx_look}
+use Rattle.ov_model.specs.Tables.{Material, Peer, Key, Table, keys_in, by_key_id, by_vpn, has_vpn, by_remote, has_id, by_id}
+use Rattle.ov_model.specs.Step.{Outcome, has_key, where_found, hold_of, key_found, tx_look, rx_look}
 use Rattle.ov_table.specs.Pairs.{key_of_peer, live_key, retired_key, material_if_any, pair_in}
 
 given : (o : Option Key) (b : Option Material) → is_some o ≡ true → is_some (option_or (material_if_any o) b) ≡ true
@@ -67,23 +67,21 @@ key_found_held t now test p (Some k) h is has said =
     let same : k.serial ≡ h.key = (let e : reply.Hold (hold_of p k) ≡ reply.Hold h = said in let v : hold_of p k ≡ h = cc in ap (λ v. v.key) v) in
     subst (λ n. is_some (pair_in (record t { moment = now }) n) ≡ true) same (held_pair t now k.serial test p is (has k refl))
 
-tx_found_held : (t : Table) (now : ℕ) (a : Addr) (o : Option Peer) (h : HoldView) → by_vpn a t.live ≡ o → HasPair (tx_found t now o) h
-tx_found_held t now a None h is said = absurd (let e : reply.NoPeer ≡ reply.Hold h = said in cc)
-tx_found_held t now a (Some p) h is said = key_found_held t now (has_vpn a) p p.slots.primary h is (primary_there p) said
+look_held : (t : Table) (now : ℕ) (test : Peer → Bool) (o : Option Peer) (key : Peer → Option Key) (h : HoldView) → find test t.live ≡ o → ((p : Peer) (x : Key) → key p ≡ Some x → has_key x.serial p ≡ true) → HasPair (where_found t now reply.NoPeer o (λ p. key_found t now p (key p))) h
+look_held t now test None key h is has said = absurd (let e : reply.NoPeer ≡ reply.Hold h = said in cc)
+look_held t now test (Some p) key h is has said = key_found_held t now test p (key p) h is (has p) said
 
 pub tx_held : (t : Table) (now : ℕ) (a : Addr) (h : HoldView) → HasPair (tx_look t now a) h
 unfolding tx_look
-tx_held t now a h = tx_found_held t now a (by_vpn a t.live) h refl
-
-rx_found_held : (t : Table) (now : ℕ) (key_id : KeyId) (test : Peer → Bool) (o : Option Peer) (h : HoldView) → find test t.live ≡ o → HasPair (rx_found t now key_id o) h
-rx_found_held t now key_id test None h is said = absurd (let e : reply.NoPeer ≡ reply.Hold h = said in cc)
-rx_found_held t now key_id test (Some p) h is said = key_found_held t now test p (by_key_id key_id p.slots) h is (λ x found. key_there (λ k. k.key_id.number == key_id.number) (keys_in p.slots) x found) said
+tx_held t now a h = look_held t now (has_vpn a) (by_vpn a t.live) (λ p. p.slots.primary) h refl primary_there
 
 pub rx_held : (t : Table) (now : ℕ) (id : PeerId) (key_id : KeyId) (from : Transport) (h : HoldView) → HasPair (rx_look t now id key_id from) h
 unfolding rx_look
 rx_held t now id key_id from h =
+    let key : Peer → Option Key = λ p. by_key_id key_id p.slots in
+    let there : (p : Peer) (x : Key) → key p ≡ Some x → has_key x.serial p ≡ true = λ p x found. key_there (λ k. k.key_id.number == key_id.number) (keys_in p.slots) x found in
     elim (id.number == 16777215)
-    as (λ b. HasPair (rx_found t now key_id (if b then by_remote from t.live else by_id id t.live)) h) [
-      | true ↦ rx_found_held t now key_id (λ p. same_transport p.remote from) (by_remote from t.live) h refl
-      | false ↦ rx_found_held t now key_id (λ p. p.id.number == id.number) (by_id id t.live) h refl
+    as (λ b. HasPair (where_found t now reply.NoPeer (if b then by_remote from t.live else by_id id t.live) (λ p. key_found t now p (key p))) h) [
+      | true ↦ look_held t now (λ p. same_transport p.remote from) (by_remote from t.live) key h refl there
+      | false ↦ look_held t now (has_id id) (by_id id t.live) key h refl there
     ]

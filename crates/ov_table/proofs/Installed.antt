@@ -16,6 +16,7 @@ use Rattle.ov_model.specs.Tables.{Material, Peer, Key, Table, empty_table, keys_
 use Rattle.ov_model.specs.Step.{Outcome, has_key, key_of_conf, key_new, act_step, step}
 use Rattle.ov_model.specs.Keys.{key_of, key_by}
 use Rattle.ov_model.specs.Runs.{Follows, table_after}
+use Rattle.ov_model.proofs.Firsts.{all_found}
 use Rattle.ov_model.proofs.Lanes.{all_weaker}
 use Rattle.ov_table.specs.Pairs.{key_of_peer, live_key, retired_key, material_if_any, pair_in}
 use Rattle.ov_table.specs.Recorded.{Recorded, IsTold}
@@ -152,21 +153,13 @@ key_in es key (x ∷ keys) k is all =
     ]
     refl is
 
-found_all : {X : Type 0} (P : X → Type 0) (p : X → Bool) (xs : List X) (y : X) → find p xs ≡ Some y → AllByRecursion P xs → P y
-found_all P p [] y is all = absurd (let e : ◌≡◌ None (Some y) = is in cc)
-found_all P p (x ∷ xs) y is all =
-    elim (p x)
-    as (λ b. (if b then Some x else find p xs) ≡ Some y → P y)
-    [ true ↦ λ is. subst P (let e : ◌≡◌ (Some x) (Some y) = is in cc) all.0 | false ↦ λ is. found_all P p xs y is all.1 ]
-    is
-
 in_key : (es : List Entry) (key : ℕ) (keys : List Key) (o : Option Key) (m : Material) → find (λ k. k.serial == key) keys ≡ o → AllByRecursion (AsIn es) keys → material_if_any o ≡ Some m → key_of es key ≡ Some m
 in_key es key keys None m is all gives = absurd (let e : ◌≡◌ None (Some m) = gives in cc)
 in_key es key keys (Some k) m is all gives = key_in es key keys k is all ∙ gives
 
 in_peer : (es : List Entry) (key : ℕ) (peers : List Peer) (o : Option Peer) (m : Material) → find (has_key key) peers ≡ o → AllByRecursion (λ p. SlotsHold (AsIn es) p.slots) peers → material_if_any (key_of_peer key o) ≡ Some m → key_of es key ≡ Some m
 in_peer es key peers None m is all gives = absurd (let e : ◌≡◌ None (Some m) = gives in cc)
-in_peer es key peers (Some p) m is all gives = in_key es key (keys_in p.slots) (by_key key p.slots) m refl (slots_all (AsIn es) p.slots (found_all (λ q. SlotsHold (AsIn es) q.slots) (has_key key) peers p is all)) gives
+in_peer es key peers (Some p) m is all gives = in_key es key (keys_in p.slots) (by_key key p.slots) m refl (slots_all (AsIn es) p.slots (all_found (λ q. SlotsHold (AsIn es) q.slots) (has_key key) peers p is all)) gives
 
 in_either : (a b : Option Material) (m : Material) (Goal : Type 0) → (a ≡ Some m → Goal) → (b ≡ Some m → Goal) → option_or a b ≡ Some m → Goal
 in_either None b m Goal f g is = g is

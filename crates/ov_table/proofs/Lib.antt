@@ -1,4 +1,3 @@
-pub mod Floats
 pub mod Held
 pub mod Installed
 pub mod Kept

@@ -1,9 +1,12 @@
 -- What one step of the lists of peers and keys gives besides the lists.
-use Rattle.std.specs.Prelude.{ℕ, List, [], ◌∷◌, ◌++◌, Option, Some, None, is_some, if◌then◌else◌}
+use Rattle.std.specs.Prelude.{ℕ, ◌+◌, List, [], ◌∷◌, ◌++◌, Option, Some, None, is_some, slice_set, if◌then◌else◌}
 use Rattle.ov_base.specs.declared.address.Transport.{Transport}
+use Rattle.ov_model.specs.declared.command.KeyConf.{KeyConf}
 use Rattle.ov_model.specs.declared.reply.Reply.{Reply}
+use Rattle.ov_model.specs.declared.reply.Reply.TheVariants as reply
 use Rattle.ov_model.specs.declared.note.NoteBody.{NoteBody}
-use Rattle.ov_model.specs.Tables.{Peer, Table, by_remote}
+use Rattle.ov_model.specs.declared.note.NoteBody.TheVariants as note
+use Rattle.ov_model.specs.Tables.{Peer, Key, Table, in_slot, key_if_any, key_serials, by_key, without_key, by_remote}
 use Rattle.ov_model.specs.Step as model
 
 -- The note of a step, or none.
@@ -28,3 +31,23 @@ free live (Some from) = if is_some (by_remote from live) then None else Some fro
 abbrev pub moved : Option Transport → Peer → Peer
 moved None p = p
 moved (Some remote) p = record p { remote = remote }
+
+-- key-new and a spend at the place of their peer in the live list.
+abbrev pub key_put : Table → ℕ → KeyConf → ℕ → Peer → model.Outcome
+key_put t now c i p = model.unless t now (model.key_new_checks t) (record {
+  after = record t { live = slice_set t.live i (model.with_key c.slot (model.key_of_conf t.keys_made c) p); retired = t.retired ++ key_if_any (in_slot c.slot p.slots); keys_made = t.keys_made + 1; moment = now };
+  reply = reply.Made t.keys_made;
+  taken = key_serials (key_if_any (in_slot c.slot p.slots));
+  notes = [];
+})
+
+abbrev pub spent_at : Table → ℕ → ℕ → ℕ → Peer → Key → model.Outcome
+spent_at t now i key p k = record {
+  after = record t { live = slice_set t.live i (record p { slots = without_key key p.slots }); retired = t.retired ++ k ∷ []; moment = now };
+  reply = reply.Killed;
+  taken = key ∷ [];
+  notes = note.KeySwap p.id k.key_id ∷ [];
+}
+
+abbrev pub spent_of : Table → ℕ → ℕ → ℕ → Peer → model.Outcome
+spent_of t now i key p = model.where_found t now reply.AlreadyGone (by_key key p.slots) (spent_at t now i key p)

@@ -103,7 +103,7 @@ pub fn free(peers: &[Peer], from: Option<Transport>) -> Option<Transport>
 
 /// The place in the list of the peer with an id.
 pub fn place_of_id(peers: &[Peer], id: PeerId) -> Option<usize>
-    ensures place { result ≡ position (λ p. p.id.number == id.number) peers.now }
+    ensures place { result ≡ position (tables.has_id id) peers.now }
     ensures within { IfSome result (λ i. i < length peers.now) }
 {
     peers.iter().position(|peer| peer.id.get() == id.get())
@@ -111,7 +111,7 @@ pub fn place_of_id(peers: &[Peer], id: PeerId) -> Option<usize>
 
 /// The place in the list of the peer with a serial.
 pub fn place_of_serial(peers: &[Peer], serial: u32) -> Option<usize>
-    ensures place { result ≡ position (λ p. p.serial == serial) peers.now }
+    ensures place { result ≡ position (tables.has_serial serial) peers.now }
     ensures within { IfSome result (λ i. i < length peers.now) }
 {
     peers.iter().position(|peer| peer.serial == serial)

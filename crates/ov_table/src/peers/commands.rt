@@ -1,8 +1,10 @@
 //! The commands of the netlink family.
 
-ghost use Rattle.std.specs.Prelude.{◌≡◌, ◌≤◌, ◌<◌, ◌+◌, length, slice_get, IfOk, OnOk, OnErr};
+ghost use Rattle.std.specs.Prelude.{◌≡◌, ◌≤◌, ◌<◌, ◌+◌, List, [], ◌∷◌, Some, length, slice_get, remove, IfOk, OnOk, OnErr};
+ghost use Rattle.ov_model.specs.declared.reply.Reply.TheVariants as reply;
 ghost use Rattle.ov_model.specs.Step as model;
-ghost use Rattle.ov_table.specs.Outcomes.{outcome};
+ghost use Rattle.ov_model.specs.Tables.{Peer};
+ghost use Rattle.ov_table.specs.Outcomes.{outcome, key_put};
 ghost use Rattle.ov_table.specs.Recorded.{unreleased};
 
 use super::Peers;
@@ -87,7 +89,6 @@ impl Peers {
 
     /// The removal of the live peer with an id, refused where there is none: it joins the dying ones, the
     /// keys of its slots join the retired ones, and the note tells its id and the reason.
-    #[tactic(auto, unfolding(ov_model::specs::Step::remove_peer))]
     fn remove(&mut self, now: u32, id: PeerId, reason: Reason) -> Result<Outcome, Memory>
         ensures ok { IfOk result (λ o. outcome self.new o.reply o.note o.first o.second ≡ model.remove_peer self.old now id reason) }
         ensures kept { IfOk result (λ o. o.kept ≡ o.reply) }
@@ -101,9 +102,10 @@ impl Peers {
     }
 
     /// The same for the live peer at a place of the list.
+    #[tactic(auto, using(crate::proofs::Outcomes::one_key))]
     fn remove_at(&mut self, now: u32, place: usize, reason: Reason) -> Result<Outcome, Memory>
         requires { place < length self.old.live }
-        ensures ok { IfOk result (λ o. outcome self.new o.reply o.note o.first o.second ≡ model.removed_found self.old now reason place (slice_get self.old.live place)) }
+        ensures ok { IfOk result (λ o. (p : Peer) → slice_get self.old.live place ≡ Some p → outcome self.new o.reply o.note o.first o.second ≡ model.removals self.old now reason (p ∷ []) (remove self.old.live place) (reply.Removed (p.serial ∷ []))) }
         ensures kept { IfOk result (λ o. o.kept ≡ o.reply) }
         ensures more { OnOk result (unreleased self.new ≤ unreleased self.old + 2) }
         ensures err { OnErr result (self.new ≡ self.old) }
@@ -132,7 +134,6 @@ impl Peers {
 
     /// key-new: the key stands in its slot, and a key that stood there is retired. Refused where no live
     /// peer has the id, and then there may be no space.
-    #[tactic(auto, unfolding(ov_model::specs::Step::key_new))]
     fn key_new(&mut self, now: u32, conf: &KeyConf) -> Result<Outcome, Memory>
         ensures ok { IfOk result (λ o. outcome self.new o.reply o.note o.first o.second ≡ model.key_new self.old now conf.now) }
         ensures kept { IfOk result (λ o. o.kept ≡ o.reply) }
@@ -149,7 +150,7 @@ impl Peers {
     #[tactic(auto, using(crate::proofs::Outcomes::one_taken))]
     fn key_new_at(&mut self, now: u32, place: usize, conf: &KeyConf) -> Result<Outcome, Memory>
         requires { place < length self.old.live }
-        ensures ok { IfOk result (λ o. outcome self.new o.reply o.note o.first o.second ≡ model.key_new_found self.old now conf.now place (slice_get self.old.live place)) }
+        ensures ok { IfOk result (λ o. (p : Peer) → slice_get self.old.live place ≡ Some p → outcome self.new o.reply o.note o.first o.second ≡ key_put self.old now conf.now place p) }
         ensures kept { IfOk result (λ o. o.kept ≡ o.reply) }
         ensures more { OnOk result (unreleased self.new ≤ unreleased self.old + 2) }
         ensures err { OnErr result (self.new ≡ self.old) }

@@ -11,7 +11,6 @@ use crate::find;
 
 impl Peers {
     /// A dying peer is let go.
-    #[tactic(auto, unfolding(ov_model::specs::Step::released))]
     pub fn release(&mut self, now: u32, serial: u32)
         requires { model.is_there serial self.old.dying ≡ true }
         ensures value { outcome self.new (reply.Released serial) None None None ≡ model.released self.old now serial }
@@ -25,7 +24,6 @@ impl Peers {
     }
 
     /// A retired key is let go.
-    #[tactic(auto, unfolding(ov_model::specs::Step::key_released))]
     pub fn release_key(&mut self, now: u32, serial: u32)
         requires { model.is_retired serial self.old.retired ≡ true }
         ensures value { outcome self.new (reply.KeyReleased serial) None None None ≡ model.key_released self.old now serial }
