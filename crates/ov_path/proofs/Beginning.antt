@@ -20,7 +20,8 @@ use Rattle.ov_model.specs.Packets.{HeadKind, short, data_v1, control, data_v2, h
 use Rattle.ov_model.specs.Path.{Begin, at_once, first, begins, begins_netlink, begins_tx, begins_rx, rx_look_by, IsLook}
 use Rattle.ov_model.proofs.PeerIds.{peer_id_of, key_id_of}
 use Rattle.ov_packet.specs.declared.head.Head.{Head}
-use Rattle.ov_path.specs.Parts.{IsData, CanHold}
+use Rattle.ov_path.specs.declared.stage.Stage.TheVariants as stage
+use Rattle.ov_path.specs.Walks.{AsksHop}
 
 look_by : (from : Transport) (id : PeerId) (key : KeyId) (a : Option PeerId) (b : Option KeyId) → Some id ≡ a → Some key ≡ b → first (act.RxLook id key from) ≡ rx_look_by a b from
 look_by from id key a b e f = rw (← e) (rw (← f) refl)
@@ -28,16 +29,6 @@ look_by from id key a b e f = rw (← e) (rw (← f) refl)
 -- A head that was read looks up its peer and key.
 pub begins_data : (from : Transport) (head : Head) (k : HeadKind) → data_v2 head.id.number head.key_id.number head.packet_id ≡ k → first (act.RxLook head.id head.key_id from) ≡ begins_rx from k
 begins_data from head k e = rw (← e) (look_by from head.id head.key_id (peer_id head.id.number) (key_id head.key_id.number) (peer_id_of head.id.number head.id.in_range) (key_id_of head.key_id.number head.key_id.in_range))
-
--- A datagram that is looked up is a data packet.
-data_begins : (from : Transport) (a : Act) (k : HeadKind) → begins_rx from k ≡ first a → IsData k
-data_begins from a short e = absurd (let same : at_once _ ≡ first a = e in cc)
-data_begins from a data_v1 e = absurd (let same : at_once _ ≡ first a = e in cc)
-data_begins from a control e = absurd (let same : at_once _ ≡ first a = e in cc)
-data_begins from a (data_v2 id key n) e = tt
-
-pub is_data : (via : Addr → Addr) (from : Transport) (bytes : List ℕ) (a : Act) (d : Deed) → d ≡ deed.Rx from bytes → begins via d ≡ first a → IsData (head_of bytes)
-is_data via from bytes a d is e = let P : Deed → Type 0 = λ x. begins via x ≡ first a in data_begins from a (head_of bytes) (subst P is e)
 
 -- What is answered at once was not sealed.
 abbrev unsealed_ids : Begin → List DrawnId
@@ -72,19 +63,8 @@ unsealed via (deed.Rx from bytes) = unsealed_rx from (head_of bytes)
 pub at_once_unsealed : (via : Addr → Addr) (d : Deed) (a : Answer) → begins via d ≡ at_once a → sealed_ids a ≡ []
 at_once_unsealed via d a e = let same : unsealed_ids (begins via d) ≡ sealed_ids a = ap unsealed_ids e in rw (← same) (unsealed via d)
 
--- A line that begins with a look-up can hold.
-abbrev looks_first : Begin → Type 0
-looks_first (at_once a) = ⊥
-looks_first (first a) = IsLook a
-
-not_netlink : (r : Result Command Errno) → looks_first (begins_netlink r) → ⊥
-not_netlink (Ok c) looks = looks
-not_netlink (Err e) looks = looks
-
-holds_by : (via : Addr → Addr) (d : Deed) → looks_first (begins via d) → CanHold d
-holds_by via (deed.Netlink m) looks = absurd (not_netlink (checked m) looks)
-holds_by via (deed.Tx packet) looks = tt
-holds_by via (deed.Rx from bytes) looks = tt
-
-pub can_hold : (via : Addr → Addr) (d : Deed) (a : Act) → begins via d ≡ first a → IsLook a → CanHold d
-can_hold via d a begins_so looks = holds_by via d (let P : Begin → Type 0 = λ b. looks_first b in subst P (sym begins_so) looks)
+-- Only a packet to be sent asks for a next hop where it begins.
+pub begins_hop : (via vib : Addr → Addr) (d : Deed) → (AsksHop stage.Fresh d → vib ≡ via) → begins vib d ≡ begins via d
+begins_hop via vib (deed.Netlink m) own = refl
+begins_hop via vib (deed.Tx packet) own = ap (λ hop. begins_tx hop (inner_of packet)) (own tt)
+begins_hop via vib (deed.Rx from bytes) own = refl

@@ -1,6 +1,6 @@
 -- A line that is over: its events and its answer have a path.
 use Rattle.std.proofs.Common.{ℕ, ◌≡◌, List, [], ◌∷◌, ◌++◌, refl, sym, ◌∙◌, ap, append-nil, subst, Bool, true, false}
-use Rattle.std.specs.Prelude.{Option, Some, None, unwrap_or, is_some}
+use Rattle.std.specs.Prelude.{Option, Some, None, is_some, Result, Ok, Err}
 use Rattle.std.proofs.lemmas.List.{map-append}
 use Rattle.ov_base.specs.declared.address.Addr.{Addr}
 use Rattle.ov_model.specs.declared.place.Place.{Place}
@@ -16,8 +16,6 @@ use Rattle.ov_model.specs.declared.reply.Reply.{Reply}
 use Rattle.ov_model.specs.declared.reply.Reply.TheVariants as reply
 use Rattle.ov_model.specs.declared.stand.Use.{Use}
 use Rattle.ov_model.specs.declared.stand.Use.TheVariants as used
-use Rattle.ov_model.specs.declared.stand.Stand.{Stand}
-use Rattle.ov_model.specs.declared.stand.Stand.TheVariants as stand
 use Rattle.ov_model.specs.declared.line.Line.{Line}
 use Rattle.ov_model.specs.declared.line.Deed.{Deed}
 use Rattle.ov_model.specs.declared.line.Deed.TheVariants as deed
@@ -28,10 +26,11 @@ use Rattle.ov_model.specs.Tables.{Material}
 use Rattle.ov_model.specs.Events.{Event, GaveKey, GavePeer, release_of, releases, steps_in, judgements_in, draws_in}
 use Rattle.ov_model.specs.Keys.{sealed_ids}
 use Rattle.ov_model.specs.Path.{at_once, first, begins, IsLook, IsMiss, UseFits, settled_answer, Columns, use_row, owed_where, hold_owed, by_at_once, by_command, by_miss, by_round}
-use Rattle.ov_path.specs.Desks.{Holding, Shown, Called, owed_if, first_owed, look_holds}
-use Rattle.ov_path.specs.Walks.{released, use_events, AtReplied, AtPeerGiven, Walking, Over, IsOpen, Progressed, AnswerIs}
-use Rattle.ov_path.specs.declared.walk.Progress.{Progress}
-use Rattle.ov_path.specs.declared.walk.Progress.TheVariants.{More, Answered}
+use Rattle.ov_path.specs.Desks.{Holding, View, Called, owed_if, first_owed, look_holds}
+use Rattle.ov_path.specs.Stages.{ends}
+use Rattle.ov_path.specs.declared.stage.Stage.{Stage}
+use Rattle.ov_path.specs.declared.stage.Stage.TheVariants as stage
+use Rattle.ov_path.specs.Walks.{released, use_events, AtReplied, AtPeerGiven, Walking, Over, IsOpen, GoesOn}
 use Rattle.ov_path.proofs.Beginning.{at_once_unsealed}
 use Rattle.ov_path.proofs.Going.{LookSays, look_says, all_done, same_head}
 
@@ -110,8 +109,8 @@ draws_of_use via place at (deed.Rx from bytes) h m (used.Settled s) es fits none
 -- ---- ends
 
 -- A line that is answered at once.
-pub nothing_over : {m : ℕ → Option Material} {via : Addr → Addr} {place : Place} {line : Line} {w : Shown} {a : Option Answer} (b : Answer) →
-    Walking m via place line w stand.Fresh a → begins via line.deed ≡ at_once b → Over m via place line w b
+pub nothing_over : {via : Addr → Addr} {place : Place} {line : Line} {w : View} (b : Answer) →
+    Walking via place line w stage.Fresh → begins via line.deed ≡ at_once b → Over via place line w b
 nothing_over {via = via} {line = line} b k begins_so = record {
   owes = k.trail.owes;
   hold = k.hold;
@@ -125,26 +124,25 @@ miss_holds before reply.NoKey cause miss = refl
 miss_holds before _ cause miss = absurd miss
 
 -- A look-up that found nothing.
-pub missed_over : {D : Type 0} {does : Event → D → Type 0} {desk : D} {m n : ℕ → Option Material} {via vib : Addr → Addr} {place : Place} {line : Line} {w v : Shown} {a : Option Answer} (look : Act) (r : Reply) (cause : DropCause) →
-    Walking m via place line w stand.Fresh a → begins via line.deed ≡ first look → IsLook look → IsMiss r cause → vib ≡ via →
-    Called does w place (record { at = line.at; act = look }) r n v desk →
-    Over n vib place line v (answer.Dropped cause)
-missed_over {n = n} {w = w} look r cause k begins_so is_look miss same called =
-    let says : LookSays n w.hold look r called.taken called.joined = look_says n w.hold look r called.taken called.joined is_look called.joins called.has in
-    rw same (rw called.new_is (record {
-      owes = rw (k.trail.owes, says.joins) refl;
-      hold = says.hold ∙ miss_holds w.hold r cause miss ∙ k.hold;
-      path = by_miss (record { look = look; r = r; cause = cause; begins_so = begins_so; looks = is_look; misses = miss; steps_are = rw (k.trail.none, says.takes) refl; judgements_are = rw k.trail.none refl; answer_is = refl });
-      drawn = rw k.trail.none refl;
-    }))
+pub missed_over : {D : Type 0} {view : D → View} {does : D → Event → D → Type 0} {d e : D} {via : Addr → Addr} {place : Place} {line : Line} (look : Act) (r : Reply) (cause : DropCause) →
+    Walking via place line (view d) stage.Fresh → begins via line.deed ≡ first look → IsLook look → IsMiss r cause →
+    Called view does d place (record { at = line.at; act = look }) r e →
+    Over via place line (view e) (answer.Dropped cause)
+missed_over {view = view} {d = d} {e = e} look r cause k begins_so is_look miss called =
+    let says : LookSays (view e).material (view d).hold look r called.taken called.joined = look_says (view e).material (view d).hold look r called.taken called.joined is_look called.joins called.has in
+    record {
+      owes = called.leaves.owing_is ∙ rw (k.trail.owes, says.joins) refl;
+      hold = called.leaves.hold_is ∙ says.hold ∙ miss_holds (view d).hold r cause miss ∙ k.hold;
+      path = by_miss (record { look = look; r = r; cause = cause; begins_so = begins_so; looks = is_look; misses = miss; steps_are = rw (called.leaves.events, k.trail.none, says.takes) refl; judgements_are = rw (called.leaves.events, k.trail.none) refl; answer_is = refl });
+      drawn = rw (called.leaves.events, k.trail.none) refl;
+    }
 
 -- A command after its releases.
-pub replied_over : {m : ℕ → Option Material} {via : Addr → Addr} {place : Place} {line : Line} {w : Shown} (b : Answer) →
-    Walking m via place line w stand.Replied (Some b) → w.owing ≡ [] → Over m via place line w b
-replied_over {place = place} {line = line} {w = w} b k none =
-    let t : AtReplied _ _ place line w.events w.owing (Some b) = k.trail in
+replied_over : {via : Addr → Addr} {place : Place} {line : Line} {w : View} {b : Answer} →
+    Walking via place line w (stage.Replied b) → w.owing ≡ [] → Over via place line w b
+replied_over {via = via} {place = place} {line = line} {w = w} {b = b} k none =
+    let t : AtReplied via place line w b = k.trail in
     let all : t.done ≡ t.all = all_done t.done w.owing t.all t.owes none in
-    let answer_is : b ≡ answer.Reply t.r = ap (λ o. unwrap_or o b) t.answer in
     record {
       owes = none;
       hold = k.hold;
@@ -157,9 +155,9 @@ replied_over {place = place} {line = line} {w = w} b k none =
         some = t.some;
         steps_are = rw (t.events, ← all) (same_head _ (steps_in (released place line.at t.done)) (releases place line.at t.done) (steps_released place line.at t.done));
         judgements_are = rw t.events (judgements_released place line.at t.done);
-        answer_is = answer_is;
+        answer_is = t.answer;
       });
-      drawn = rw (t.events, answer_is) (draws_released place line.at t.done);
+      drawn = rw (t.events, t.answer) (draws_released place line.at t.done);
     }
 
 abbrev is_last : Given → Bool
@@ -171,15 +169,14 @@ last_owed given.More o = refl
 last_owed given.Last o = refl
 
 -- A hold after its releases.
-pub held_over : {m : ℕ → Option Material} {via : Addr → Addr} {place : Place} {line : Line} {w : Shown} {h : HoldView} {u : Use} (b : Answer) →
-    Walking m via place line w (stand.PeerGiven h u) (Some b) → w.owing ≡ [] → Over m via place line w b
-held_over {via = via} {place = place} {line = line} {w = w} {h = h} {u = u} b k none =
-    let t : AtPeerGiven _ via place line h u w.events w.owing (Some b) = k.trail in
+held_over : {via : Addr → Addr} {place : Place} {line : Line} {w : View} {h : HoldView} {u : Use} {b : Answer} →
+    Walking via place line w (stage.PeerGiven h u b) → w.owing ≡ [] → Over via place line w b
+held_over {via = via} {place = place} {line = line} {w = w} {h = h} {u = u} {b = b} k none =
+    let t : AtPeerGiven via place line w h u b = k.trail in
     let keys : List Owed = owed_if t.key (owed.Key h.key) in
     let peers : List Owed = owed_if t.peer (owed.Peer h.peer) in
     let all : t.done ≡ peers = all_done t.done w.owing peers t.owes none in
     let row : Columns = use_row via place line.at line.deed h t.m u in
-    let answer_is : b ≡ row.answer = ap (λ o. unwrap_or o b) t.answer in
     let back : List Event = GaveKey h.key t.key ∷ (released place line.at keys ++ GavePeer h.peer t.peer ∷ released place line.at t.done) in
     let both : hold_owed h (is_last t.key) (is_last t.peer) ≡ keys ++ peers = rw (← last_owed t.key (owed.Key h.key), ← last_owed t.peer (owed.Peer h.peer)) refl in
     let back_steps : steps_in back ≡ releases place line.at (hold_owed h (is_last t.key) (is_last t.peer)) =
@@ -201,43 +198,53 @@ held_over {via = via} {place = place} {line = line} {w = w} {h = h} {u = u} b k 
         fits = (t.held.has, t.fits);
         steps_are = ap steps_in t.held.events ∙ same_head _ _ _ steps;
         judgements_are = ap judgements_in t.held.events ∙ judgements;
-        answer_is = answer_is;
+        answer_is = t.answer;
       });
-      drawn = ap draws_in t.held.events ∙ draws_of_use via place line.at line.deed h t.m u back t.fits back_draws ∙ ap sealed_ids (sym answer_is);
+      drawn = ap draws_in t.held.events ∙ draws_of_use via place line.at line.deed h t.m u back t.fits back_draws ∙ ap sealed_ids (sym t.answer);
     }
 
 -- A line that owes a release is open.
-pub open_owing : (s : Stand) (o : Owed) (os : List Owed) → first_owed os ≡ Some o → IsOpen s os
+open_owing : (s : Stage) (o : Owed) (os : List Owed) → first_owed os ≡ Some o → IsOpen s os
 open_owing s o [] e = absurd (let same : ◌≡◌ {A = Option Owed} None (Some o) = e in cc)
-open_owing stand.Fresh o (x ∷ os) e = tt
-open_owing stand.Replied o (x ∷ os) e = tt
-open_owing stand.Missed o (x ∷ os) e = tt
-open_owing (stand.Looked h) o (x ∷ os) e = tt
-open_owing (stand.Drew h d) o (x ∷ os) e = tt
-open_owing (stand.Judged h) o (x ∷ os) e = tt
-open_owing (stand.Used h u) o (x ∷ os) e = tt
-open_owing (stand.KeyGiven h u) o (x ∷ os) e = tt
-open_owing (stand.PeerGiven h u) o (x ∷ os) e = tt
+open_owing stage.Fresh o (x ∷ os) e = tt
+open_owing (stage.Replied a) o (x ∷ os) e = tt
+open_owing (stage.Looked h p) o (x ∷ os) e = tt
+open_owing (stage.Drew h d) o (x ∷ os) e = tt
+open_owing (stage.Judged h packet) o (x ∷ os) e = tt
+open_owing (stage.Used h u a) o (x ∷ os) e = tt
+open_owing (stage.KeyGiven h u a) o (x ∷ os) e = tt
+open_owing (stage.PeerGiven h u a) o (x ∷ os) e = tt
+
+-- The first owed release was asked for: there is one, or none.
+some_owed : (q : Option Owed) (b : Bool) (s : Stage) (os : List Owed) → q ≡ first_owed os → b ≡ is_some q → b ≡ true → IsOpen s os
+some_owed q b s [] is some there = absurd (let none : b ≡ false = some ∙ rw is refl in cc)
+some_owed q b s (x ∷ os) is some there = open_owing s x (x ∷ os) refl
+
+nothing_owed : (q : Option Owed) (b : Bool) (os : List Owed) → q ≡ first_owed os → b ≡ is_some q → b ≡ false → os ≡ []
+nothing_owed q b [] is some none = refl
+nothing_owed q b (x ∷ os) is some none = absurd (let there : b ≡ true = some ∙ rw is refl in cc)
+
+-- What a stage has where nothing is owed: the line's answer, or the line goes on.
+abbrev Finished : (Addr → Addr) → Place → Line → View → Result Answer Stage → Type 0
+Finished via place line w (Ok a) = Over via place line w a
+Finished via place line w (Err s) = GoesOn via place line w s
+
+finished : {via : Addr → Addr} {place : Place} {line : Line} {w : View} (s : Stage) → Walking via place line w s → w.owing ≡ [] → Finished via place line w (ends s)
+finished stage.Fresh k none = (k, tt)
+finished (stage.Replied a) k none = replied_over k none
+finished (stage.Looked h p) k none = (k, tt)
+finished (stage.Drew h d) k none = (k, tt)
+finished (stage.Judged h packet) k none = (k, tt)
+finished (stage.Used h u a) k none = (k, tt)
+finished (stage.KeyGiven h u a) k none = (k, tt)
+finished (stage.PeerGiven h u a) k none = held_over k none
+
+pub finish_open : {via : Addr → Addr} {place : Place} {line : Line} {w : View} {s : Stage} (q : Option Owed) (b : Bool) → Walking via place line w s → q ≡ first_owed w.owing → b ≡ is_some q → b ≡ true → GoesOn via place line w s
+finish_open {w = w} {s = s} q b k is some there = (k, some_owed q b s w.owing is some there)
+
+pub finish_by : {via : Addr → Addr} {place : Place} {line : Line} {w : View} {s : Stage} (r : Result Answer Stage) (q : Option Owed) (b : Bool) → Walking via place line w s → r ≡ ends s → q ≡ first_owed w.owing → b ≡ is_some q → b ≡ false → Finished via place line w r
+finish_by {w = w} {s = s} r q b k r_is is some none = rw r_is (finished s k (nothing_owed q b w.owing is some none))
 
 pub none_owed : (os : List Owed) → first_owed os ≡ None → os ≡ []
 none_owed [] e = refl
 none_owed (x ∷ os) e = absurd (let same : ◌≡◌ {A = Option Owed} (Some x) None = e in cc)
-
--- The first owed release was asked for, and there is none.
-pub nothing_owed : (q : Option Owed) (b : Bool) (os : List Owed) → q ≡ first_owed os → b ≡ is_some q → b ≡ false → os ≡ []
-nothing_owed q b [] is some none = refl
-nothing_owed q b (x ∷ os) is some none = absurd (let there : b ≡ true = some ∙ rw is refl in cc)
-
-pub finished_replied : {m : ℕ → Option Material} {via : Addr → Addr} {place late : Place} {line : Line} {w : Shown} {s : Stand} {a : Option Answer} (t : Stand) (b : Option Answer) (r : Progress) →
-    Walking m via place line w s a → s ≡ stand.Replied → AnswerIs r a → w.owing ≡ [] → late ≡ place → Progressed m via late line w t b r
-finished_replied t b More k at is none same = absurd is
-finished_replied {m} {via} {place} {late} {line} {w} {s} {a} t b (Answered x) k at is none same =
-    let P : Stand → Option Answer → Type 0 = λ y z. Walking m via place line w y z in
-    rw same (replied_over x (subst (λ y. P y (Some x)) at (subst (λ z. P s z) is k)) none)
-
-pub finished_held : {m : ℕ → Option Material} {via : Addr → Addr} {place late : Place} {line : Line} {w : Shown} {s : Stand} {a : Option Answer} (t : Stand) (b : Option Answer) (h : HoldView) (u : Use) (r : Progress) →
-    Walking m via place line w s a → s ≡ stand.PeerGiven h u → AnswerIs r a → w.owing ≡ [] → late ≡ place → Progressed m via late line w t b r
-finished_held t b h u More k at is none same = absurd is
-finished_held {m} {via} {place} {late} {line} {w} {s} {a} t b h u (Answered x) k at is none same =
-    let P : Stand → Option Answer → Type 0 = λ y z. Walking m via place line w y z in
-    rw same (held_over x (subst (λ y. P y (Some x)) at (subst (λ z. P s z) is k)) none)

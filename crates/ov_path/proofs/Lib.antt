@@ -3,3 +3,4 @@ pub mod Ending
 pub mod Going
 pub mod Opening
 pub mod Plain
+pub mod Making

@@ -1,5 +1,9 @@
--- What a desk shows of the line that stands at it, and what each of its calls makes of that.
-use Rattle.std.specs.Prelude.{ℕ, ◌≡◌, ⊤, List, [], ◌∷◌, ◌++◌, Option, Some, None}
+-- What a desk shows to the line that stands at it, and what each of its calls makes of that.
+use Rattle.std.specs.Prelude.{ℕ, ◌≡◌, ⊤, List, [], ◌∷◌, ◌++◌, Option, Some, None, nat_eq}
+use Rattle.std.specs.List.{IsDistinct}
+use Rattle.ov_base.specs.declared.address.Addr.{Addr}
+use Rattle.ov_model.specs.declared.hold.Owed.TheVariants as owed
+use Rattle.ov_model.specs.declared.replay.Verdict.{Verdict}
 use Rattle.ov_model.specs.declared.place.Place.{Place}
 use Rattle.ov_model.specs.declared.act.Act.{Act}
 use Rattle.ov_model.specs.declared.act.Act.TheVariants as act
@@ -11,7 +15,7 @@ use Rattle.ov_model.specs.declared.reply.HoldView.{HoldView}
 use Rattle.ov_model.specs.declared.reply.Reply.{Reply}
 use Rattle.ov_model.specs.declared.reply.Reply.TheVariants as reply
 use Rattle.ov_model.specs.Tables.{Material}
-use Rattle.ov_model.specs.Events.{Event, Stepped}
+use Rattle.ov_model.specs.Events.{Event, Stepped, GaveKey, GavePeer, Judgement, Judged}
 use Rattle.ov_model.specs.Path.{SomeOwed, removed, spent_taken}
 use Rattle.ov_model.specs.declared.draw.Drawn.TheVariants as drawn
 use Rattle.ov_model.specs.declared.stand.Stand.{Stand}
@@ -25,12 +29,32 @@ pub data Holding : Type 0 where
   Both : HoldView → Holding
   PeerLeft : HoldView → Holding
 
--- The events of the present line, the hold that is out, and the releases that are owed, in the order of
--- their becoming so.
-pub record Shown : Type 0 where
+-- The events of the present line, the hold that is out, the releases that are owed, in the order of their
+-- becoming so, what is had of the keys by their serials, and the next hop of an address.
+pub record View : Type 0 where
   pub events : List Event
   pub hold : Holding
   pub owing : List Owed
+  pub material : ℕ → Option Material
+  pub via : Addr → Addr
+
+-- Nothing happened yet, and nothing is held or owed.
+pub record IsNew (w : View) : Type 0 where
+  pub events : w.events ≡ []
+  pub hold : w.hold ≡ NoHold
+  pub owing : w.owing ≡ []
+
+-- What is had of the keys stays, and may become more.
+abbrev pub Grows : (old new : ℕ → Option Material) → Type 0
+Grows old new = (key : ℕ) (m : Material) → old key ≡ Some m → new key ≡ Some m
+
+-- Of the line all is as it was. More keys may be known, and the next hops may be others: so a view is after
+-- a call that answers Memory, and after what others did at the desk.
+pub record SameLine (old new : View) : Type 0 where
+  pub events : new.events ≡ old.events
+  pub hold : new.hold ≡ old.hold
+  pub owing : new.owing ≡ old.owing
+  pub grows : Grows old.material new.material
 
 -- ---- conditions
 
@@ -73,13 +97,13 @@ IsUnused (stand.Drew h d) = ⊤
 IsUnused (stand.Judged h) = ⊤
 IsUnused _ = ⊥
 
-abbrev pub IsFree : Shown → Type 0
+abbrev pub IsFree : View → Type 0
 IsFree w = (w.hold ≡ NoHold) × (w.owing ≡ []) × (stand_of w.events ≡ stand.Fresh)
 
 -- Which steps of the table a line may ask for: a command and a look-up where it holds and owes nothing,
 -- the others of the peer and the key that it holds. Releases are asked for otherwise. A line begins with its
 -- command or its look-up.
-abbrev pub MayCall : Shown → Act → Type 0
+abbrev pub MayCall : View → Act → Type 0
 MayCall w (act.Do c) = IsFree w
 MayCall w (act.TxLook a) = IsFree w
 MayCall w (act.RxLook id key_id from) = IsFree w
@@ -100,14 +124,14 @@ after_first (o ∷ os) = os
 
 -- ---- what a call does
 
--- One event more, and nothing else.
-abbrev pub with_event : Shown → Event → Shown
-with_event w e = record { events = w.events ++ e ∷ []; hold = w.hold; owing = w.owing }
-
 -- After the hold on the key was given back, that on the peer is left.
 abbrev pub peer_left : Holding → Holding
 peer_left (Both h) = PeerLeft h
 peer_left other = other
+
+-- A packet id was judged.
+abbrev pub judged_at : Place → (key id at : ℕ) → Verdict → Event
+judged_at place key id at v = Judged (record { place = place; key = key; id = id; at = at; verdict = v })
 
 -- Whoever gave back the last hold owes the release.
 abbrev pub owed_if : Given → Owed → List Owed
@@ -171,17 +195,44 @@ HasMaterial material _ r = ⊤
 abbrev pub stepped_as : Place → Call → Reply → List ℕ → Event
 stepped_as place call r taken = Stepped (record { entry = record { place = place; call = call; reply = r }; taken = taken })
 
--- A step of the table was made, with this reply. `does` is what the desk itself made of the event, and
--- `material` what it then has of the keys.
-pub record Called {D : Type 0} (does : Event → D → Type 0) (old : Shown) (place : Place) (call : Call) (r : Reply) (material : ℕ → Option Material) (new : Shown) (desk : D) : Type 0 where
+-- The next hops may become others where a step of the table was made, and nowhere else.
+abbrev pub HopsStay : Event → (old new : Addr → Addr) → Type 0
+HopsStay (Stepped s) old new = ⊤
+HopsStay _ old new = new ≡ old
+
+-- An event was made, and then this is held and owed.
+pub record Leaves (old : View) (e : Event) (hold : Holding) (owing : List Owed) (new : View) : Type 0 where
+  pub events : new.events ≡ old.events ++ e ∷ []
+  pub hold_is : new.hold ≡ hold
+  pub owing_is : new.owing ≡ owing
+  pub grows : Grows old.material new.material
+  pub hops : HopsStay e old.via new.via
+
+-- What is held after a give-back, and what is owed after a give-back or a release.
+abbrev pub hold_left : Holding → Event → Holding
+hold_left h (GaveKey key g) = peer_left h
+hold_left h (GavePeer peer g) = NoHold
+hold_left h _ = h
+
+abbrev pub owed_left : List Owed → Event → List Owed
+owed_left os (GaveKey key g) = os ++ owed_if g (owed.Key key)
+owed_left os (GavePeer peer g) = os ++ owed_if g (owed.Peer peer)
+owed_left os (Stepped s) = after_first os
+owed_left os _ = os
+
+-- A desk did what an event says that is a release or no step of the table. `view` is what it shows, and
+-- `does` what an event makes of it.
+pub record Did {D : Type 0} (view : D → View) (does : D → Event → D → Type 0) (old : D) (e : Event) (new : D) : Type 0 where
+  pub leaves : Leaves (view old) e (hold_left (view old).hold e) (owed_left (view old).owing e) (view new)
+  pub done : does old e new
+
+-- A desk made a step of the table, with this reply.
+pub record Called {D : Type 0} (view : D → View) (does : D → Event → D → Type 0) (old : D) (place : Place) (call : Call) (r : Reply) (new : D) : Type 0 where
   pub taken : List ℕ
   pub joined : List Owed
   pub fits : IsReplyOf call.act r
   pub joins : Joins call.act r taken joined
-  pub has : HasMaterial material call.act r
-  pub new_is : new ≡ record { events = old.events ++ stepped_as place call r taken ∷ []; hold = held_after old.hold call.act r; owing = old.owing ++ joined }
-  pub done : does (stepped_as place call r taken) desk
-
--- What a desk has of the keys stays, and may become more.
-abbrev pub Grows : (old new : ℕ → Option Material) → Type 0
-Grows old new = (key : ℕ) (m : Material) → old key ≡ Some m → new key ≡ Some m
+  pub apart : IsDistinct nat_eq (removed r)
+  pub has : HasMaterial (view new).material call.act r
+  pub leaves : Leaves (view old) (stepped_as place call r taken) (held_after (view old).hold call.act r) ((view old).owing ++ joined) (view new)
+  pub done : does old (stepped_as place call r taken) new

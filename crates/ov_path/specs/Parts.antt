@@ -1,5 +1,5 @@
 -- What a line is asked to have, and what its parts say.
-use Rattle.std.specs.Prelude.{ℕ, ⊤, List, Bool, true, false, Option, Some, None}
+use Rattle.std.specs.Prelude.{ℕ, ◌≡◌, ◌≤◌, ⊤, List, length, Bool, true, false, Option, Some, None}
 use Rattle.ov_model.specs.declared.act.Act.TheVariants as act
 use Rattle.ov_model.specs.declared.line.Deed.{Deed}
 use Rattle.ov_model.specs.declared.line.Deed.TheVariants as deed
@@ -7,15 +7,12 @@ use Rattle.ov_model.specs.declared.replay.Verdict.{Verdict}
 use Rattle.ov_model.specs.declared.replay.Verdict.TheVariants as verdict
 use Rattle.ov_model.specs.declared.replay.Refusal.{Refusal}
 use Rattle.ov_model.specs.declared.replay.Refusal.TheVariants as refused
-use Rattle.ov_model.specs.Packets.{HeadKind, data_v2}
+use Rattle.ov_model.specs.Packets.{packet_id_of}
 use Rattle.ov_model.specs.Path.{Begin, at_once, first, IsLook}
+use Rattle.ov_path.specs.declared.stage.Purpose.{Purpose}
+use Rattle.ov_path.specs.declared.stage.Purpose.TheVariants as purpose
 use Rattle.ov_path.specs.declared.begun.Begun.{Begun}
 use Rattle.ov_path.specs.declared.begun.Begun.TheVariants as begun
-
--- A datagram's head is that of a data packet of the second version.
-abbrev pub IsData : HeadKind → Type 0
-IsData (data_v2 id key_id packet_id) = ⊤
-IsData _ = ⊥
 
 -- The text, where there is one.
 abbrev pub text_if : Bool → List ℕ → Option (List ℕ)
@@ -26,12 +23,20 @@ text_if false text = None
 abbrev pub begin_told : Begun → Begin
 begin_told (begun.AtOnce a) = at_once a
 begin_told (begun.Command c) = first (act.Do c)
-begin_told (begun.Look a) = first a
+begin_told (begun.Look a p) = first a
 
-abbrev pub LooksOnly : Begun → Type 0
-LooksOnly (begun.AtOnce a) = ⊤
-LooksOnly (begun.Command c) = ⊤
-LooksOnly (begun.Look a) = IsLook a
+-- What a hold is for, by the line's deed: a packet is sealed, a datagram is opened by the packet id of its
+-- head.
+abbrev pub PurposeFits : Deed → Purpose → Type 0
+PurposeFits (deed.Tx packet) purpose.Seal = ⊤
+PurposeFits (deed.Rx from bytes) (purpose.Open id) = (id ≡ packet_id_of bytes) × (24 ≤ length bytes)
+PurposeFits _ p = ⊥
+
+-- A look-up is one, and says what its hold is for.
+abbrev pub LooksOnly : Deed → Begun → Type 0
+LooksOnly d (begun.AtOnce a) = ⊤
+LooksOnly d (begun.Command c) = ⊤
+LooksOnly d (begun.Look a p) = IsLook a × PurposeFits d p
 
 -- Why a packet id isn't taken, where it isn't.
 abbrev pub refusal : Verdict → Option Refusal
@@ -40,9 +45,3 @@ refusal verdict.Zero = Some refused.Zero
 refusal verdict.Old = Some refused.Old
 refusal verdict.Below = Some refused.Below
 refusal verdict.Again = Some refused.Again
-
--- A line that can hold a peer and its key.
-abbrev pub CanHold : Deed → Type 0
-CanHold (deed.Netlink m) = ⊥
-CanHold (deed.Tx packet) = ⊤
-CanHold (deed.Rx from bytes) = ⊤

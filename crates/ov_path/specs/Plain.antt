@@ -11,7 +11,7 @@ use Rattle.ov_model.specs.Tables.{Material}
 use Rattle.ov_model.specs.Events.{Event}
 use Rattle.ov_model.specs.Path.{spent_taken}
 use Rattle.ov_model.specs.Next.{is_killed, stand_of}
-use Rattle.ov_path.specs.Desks.{Shown, Holding, NoHold, Both, PeerLeft, IsLooked, Joins}
+use Rattle.ov_path.specs.Desks.{View, Holding, NoHold, Both, PeerLeft, IsLooked, Joins}
 
 -- The events of a line, and the room for more.
 pub record Past : Type 0 where
@@ -33,9 +33,6 @@ abbrev pub listed : Option Owed → List Owed
 listed None = []
 listed (Some o) = o ∷ []
 
-abbrev pub shown_of : Kept → Shown
-shown_of k = record { events = k.events; hold = k.hold; owing = listed k.owing }
-
 -- The desk has one key for all serials.
 abbrev pub one_key : Material → ℕ → Option Material
 one_key m key = Some m
@@ -43,6 +40,9 @@ one_key m key = Some m
 abbrev pub hop_or : Option Addr → Addr → Addr
 hop_or None a = a
 hop_or (Some hop) a = hop
+
+abbrev pub shown_of : Kept → View
+shown_of k = record { events = k.events; hold = k.hold; owing = listed k.owing; material = one_key k.pair; via = hop_or k.hop }
 
 -- What is held: a peer, with its key or after it.
 abbrev pub holding_at : Option HoldView → Bool → Holding

@@ -30,8 +30,13 @@ use Rattle.ov_model.specs.Events.{Event, Stepped, Judged, Drew, GaveKey, GavePee
 use Rattle.ov_model.specs.Keys.{sealed_ids}
 use Rattle.ov_model.specs.Path.{first, begins, SomeOwed, removed, UseFits, refused_as, spent_reply, spent_taken, sent_act, settle_act, replay_of, use_row, packet_in, Path}
 use Rattle.ov_model.specs.Next.{Ask, Nil, next, stand_of, request}
-use Rattle.ov_path.specs.Desks.{Holding, NoHold, Both, PeerLeft, Shown, Grows, owed_if}
-use Rattle.ov_path.specs.Parts.{CanHold}
+use Rattle.ov_path.specs.Desks.{Holding, NoHold, Both, PeerLeft, View, Grows, SameLine, owed_if}
+use Rattle.ov_path.specs.Parts.{PurposeFits}
+use Rattle.ov_path.specs.Stages.{stand_at}
+use Rattle.ov_path.specs.declared.stage.Purpose.{Purpose}
+use Rattle.ov_path.specs.declared.stage.Purpose.TheVariants as purpose
+use Rattle.ov_path.specs.declared.stage.Stage.{Stage}
+use Rattle.ov_path.specs.declared.stage.Stage.TheVariants as stage
 use Rattle.ov_path.specs.declared.walk.Progress.{Progress}
 use Rattle.ov_path.specs.declared.walk.Progress.TheVariants.{More, Answered}
 use Rattle.ov_path.specs.declared.walk.Walk.{Walk}
@@ -61,34 +66,26 @@ use_events via place at (deed.Tx packet) h m u = tx_events place at h packet u
 use_events via place at (deed.Rx from bytes) h m u = rx_events via place at h (packet_in (deed.Rx from bytes) m) bytes u
 use_events via place at (deed.Netlink n) h m u = []
 
--- A look-up found its peer and key, whose material is known; `later` is what happened since.
-pub record Held (material : ℕ → Option Material) (via : Addr → Addr) (place : Place) (line : Line) (h : HoldView) (m : Material) (es later : List Event) : Type 0 where
-  pub look : Act
-  pub begins_so : begins via line.deed ≡ first look
-  pub has : material h.key ≡ Some m
-  pub events : es ≡ Stepped (step_of place line.at look (reply.Hold h) []) ∷ later
-
-abbrev pub IsTx : Deed → Type 0
-IsTx (deed.Tx packet) = ⊤
-IsTx _ = ⊥
-
-abbrev pub IsRx : Deed → Type 0
-IsRx (deed.Rx from bytes) = ⊤
-IsRx _ = ⊥
-
 -- A received datagram opens as a packet, and its verdict so far is an event.
 abbrev pub Opens : Place → ℕ → HoldView → Deed → Material → (later : List Event) → (packet : List ℕ) → Type 0
 Opens place at h (deed.Rx from bytes) m later packet = (opened m.decrypt bytes ≡ Some packet) × (later ≡ judged_as place at h bytes verdict.Accept ∷ [])
 Opens place at h _ m later packet = ⊥
 
-module _ (material : ℕ → Option Material) (via : Addr → Addr) (place : Place) (line : Line) where
-  pub record AtFresh (es : List Event) (os : List Owed) (a : Option Answer) : Type 0 where
-    pub none : es ≡ []
-    pub owes : os ≡ []
-    pub answer : a ≡ None
+-- What a line did so far by its stage. `via` is the next hop of an address as the line asked for it.
+module _ (via : Addr → Addr) (place : Place) (line : Line) (w : View) where
+  -- A look-up found its peer and key, whose material is known; `later` is what happened since.
+  pub record Held (h : HoldView) (m : Material) (later : List Event) : Type 0 where
+    pub look : Act
+    pub begins_so : begins via line.deed ≡ first look
+    pub has : w.material h.key ≡ Some m
+    pub events : w.events ≡ Stepped (step_of place line.at look (reply.Hold h) []) ∷ later
+
+  pub record AtFresh : Type 0 where
+    pub none : w.events ≡ []
+    pub owes : w.owing ≡ []
 
   -- After a command: what was released and what is still owed are what the command left to release.
-  pub record AtReplied (es : List Event) (os : List Owed) (a : Option Answer) : Type 0 where
+  pub record AtReplied (a : Answer) : Type 0 where
     pub command : Command
     pub r : Reply
     pub taken : List ℕ
@@ -96,156 +93,164 @@ module _ (material : ℕ → Option Material) (via : Addr → Addr) (place : Pla
     pub done : List Owed
     pub begins_so : begins via line.deed ≡ first (act.Do command)
     pub some : SomeOwed taken (removed r) all
-    pub events : es ≡ Stepped (step_of place line.at (act.Do command) r taken) ∷ released place line.at done
-    pub owes : done ++ os ≡ all
-    pub answer : a ≡ Some (answer.Reply r)
+    pub events : w.events ≡ Stepped (step_of place line.at (act.Do command) r taken) ∷ released place line.at done
+    pub owes : done ++ w.owing ≡ all
+    pub answer : a ≡ answer.Reply r
 
-  pub record AtLooked (h : HoldView) (es : List Event) (os : List Owed) (a : Option Answer) : Type 0 where
+  pub record AtLooked (h : HoldView) (p : Purpose) : Type 0 where
     pub m : Material
-    pub can : CanHold line.deed
-    pub held : Held material via place line h m es []
-    pub owes : os ≡ []
-    pub answer : a ≡ None
+    pub fits : PurposeFits line.deed p
+    pub held : Held h m []
+    pub owes : w.owing ≡ []
 
-  pub record AtDrew (h : HoldView) (d : Drawn) (es : List Event) (os : List Owed) (a : Option Answer) : Type 0 where
+  pub record AtDrew (h : HoldView) (d : Drawn) : Type 0 where
     pub m : Material
-    pub tx : IsTx line.deed
-    pub held : Held material via place line h m es (Drew h.key d ∷ [])
-    pub owes : os ≡ []
-    pub answer : a ≡ None
+    pub fits : PurposeFits line.deed purpose.Seal
+    pub held : Held h m (Drew h.key d ∷ [])
+    pub owes : w.owing ≡ []
 
-  -- The packet waits as the answer that it is if the table says so.
-  pub record AtJudged (h : HoldView) (es : List Event) (os : List Owed) (a : Option Answer) : Type 0 where
+  -- The packet waits until the table says what becomes of it.
+  pub record AtJudged (h : HoldView) (packet : List ℕ) : Type 0 where
     pub m : Material
     pub later : List Event
-    pub packet : List ℕ
     pub short : length packet ≤ 65536
-    pub held : Held material via place line h m es later
+    pub held : Held h m later
     pub opens : Opens place line.at h line.deed m later packet
-    pub owes : os ≡ []
-    pub answer : a ≡ Some (answer.Delivered h.id packet)
+    pub owes : w.owing ≡ []
 
-  pub record AtUsed (h : HoldView) (u : Use) (es : List Event) (os : List Owed) (a : Option Answer) : Type 0 where
+  pub record AtUsed (h : HoldView) (u : Use) (a : Answer) : Type 0 where
     pub m : Material
     pub fits : UseFits line.deed m u
-    pub held : Held material via place line h m es (use_events via place line.at line.deed h m u)
-    pub owes : os ≡ []
-    pub answer : a ≡ Some ((use_row via place line.at line.deed h m u).answer)
+    pub held : Held h m (use_events via place line.at line.deed h m u)
+    pub owes : w.owing ≡ []
+    pub answer : a ≡ (use_row via place line.at line.deed h m u).answer
 
-  pub record AtKeyGiven (h : HoldView) (u : Use) (es : List Event) (os : List Owed) (a : Option Answer) : Type 0 where
+  pub record AtKeyGiven (h : HoldView) (u : Use) (a : Answer) : Type 0 where
     pub m : Material
     pub key : Given
     pub done : List Owed
     pub fits : UseFits line.deed m u
-    pub held : Held material via place line h m es (use_events via place line.at line.deed h m u ++ GaveKey h.key key ∷ released place line.at done)
-    pub owes : done ++ os ≡ owed_if key (owed.Key h.key)
-    pub answer : a ≡ Some ((use_row via place line.at line.deed h m u).answer)
+    pub held : Held h m (use_events via place line.at line.deed h m u ++ GaveKey h.key key ∷ released place line.at done)
+    pub owes : done ++ w.owing ≡ owed_if key (owed.Key h.key)
+    pub answer : a ≡ (use_row via place line.at line.deed h m u).answer
 
-  pub record AtPeerGiven (h : HoldView) (u : Use) (es : List Event) (os : List Owed) (a : Option Answer) : Type 0 where
+  pub record AtPeerGiven (h : HoldView) (u : Use) (a : Answer) : Type 0 where
     pub m : Material
     pub key : Given
     pub peer : Given
     pub done : List Owed
     pub fits : UseFits line.deed m u
-    pub held : Held material via place line h m es (use_events via place line.at line.deed h m u ++ GaveKey h.key key ∷ (released place line.at (owed_if key (owed.Key h.key)) ++ GavePeer h.peer peer ∷ released place line.at done))
-    pub owes : done ++ os ≡ owed_if peer (owed.Peer h.peer)
-    pub answer : a ≡ Some ((use_row via place line.at line.deed h m u).answer)
+    pub held : Held h m (use_events via place line.at line.deed h m u ++ GaveKey h.key key ∷ (released place line.at (owed_if key (owed.Key h.key)) ++ GavePeer h.peer peer ∷ released place line.at done))
+    pub owes : done ++ w.owing ≡ owed_if peer (owed.Peer h.peer)
+    pub answer : a ≡ (use_row via place line.at line.deed h m u).answer
 
-  abbrev pub Trail : Stand → List Event → List Owed → Option Answer → Type 0
-  Trail stand.Fresh es os a = AtFresh es os a
-  Trail stand.Replied es os a = AtReplied es os a
-  Trail stand.Missed es os a = ⊥
-  Trail (stand.Looked h) es os a = AtLooked h es os a
-  Trail (stand.Drew h d) es os a = AtDrew h d es os a
-  Trail (stand.Judged h) es os a = AtJudged h es os a
-  Trail (stand.Used h u) es os a = AtUsed h u es os a
-  Trail (stand.KeyGiven h u) es os a = AtKeyGiven h u es os a
-  Trail (stand.PeerGiven h u) es os a = AtPeerGiven h u es os a
+  abbrev pub Trail : Stage → Type 0
+  Trail stage.Fresh = AtFresh
+  Trail (stage.Replied a) = AtReplied a
+  Trail (stage.Looked h p) = AtLooked h p
+  Trail (stage.Drew h d) = AtDrew h d
+  Trail (stage.Judged h packet) = AtJudged h packet
+  Trail (stage.Used h u a) = AtUsed h u a
+  Trail (stage.KeyGiven h u a) = AtKeyGiven h u a
+  Trail (stage.PeerGiven h u a) = AtPeerGiven h u a
 
--- The hold that is out at a stand.
-abbrev pub holding_of : Stand → Holding
-holding_of stand.Fresh = NoHold
-holding_of stand.Replied = NoHold
-holding_of stand.Missed = NoHold
-holding_of (stand.Looked h) = Both h
-holding_of (stand.Drew h d) = Both h
-holding_of (stand.Judged h) = Both h
-holding_of (stand.Used h u) = Both h
-holding_of (stand.KeyGiven h u) = PeerLeft h
-holding_of (stand.PeerGiven h u) = NoHold
+-- The hold that is out at a stage.
+abbrev pub holding_of : Stage → Holding
+holding_of stage.Fresh = NoHold
+holding_of (stage.Replied a) = NoHold
+holding_of (stage.Looked h p) = Both h
+holding_of (stage.Drew h d) = Both h
+holding_of (stage.Judged h packet) = Both h
+holding_of (stage.Used h u a) = Both h
+holding_of (stage.KeyGiven h u a) = PeerLeft h
+holding_of (stage.PeerGiven h u a) = NoHold
 
--- A line runs: its events leave it at its stand, its hold is the stand's, and its trail is that of the stand.
-pub record Walking (material : ℕ → Option Material) (via : Addr → Addr) (place : Place) (line : Line) (w : Shown) (s : Stand) (a : Option Answer) : Type 0 where
-  pub stand : stand_of w.events ≡ s
+-- A line runs: its events leave it at its stage's stand, its hold is the stage's, and so is its trail.
+pub record Walking (via : Addr → Addr) (place : Place) (line : Line) (w : View) (s : Stage) : Type 0 where
+  pub stand : stand_of w.events ≡ stand_at s
   pub hold : w.hold ≡ holding_of s
-  pub trail : Trail material via place line s w.events w.owing a
+  pub trail : Trail via place line w s
 
 -- ---- one turn
 
 -- The line has an event or an answer to come: where nothing is owed, it isn't at its end.
-abbrev pub IsOpen : Stand → List Owed → Type 0
-IsOpen stand.Replied [] = ⊥
-IsOpen (stand.PeerGiven h u) [] = ⊥
+abbrev pub IsOpen : Stage → List Owed → Type 0
+IsOpen (stage.Replied a) [] = ⊥
+IsOpen (stage.PeerGiven h u a) [] = ⊥
 IsOpen _ os = ⊤
+
+-- A turn asks for a next hop where a packet to be sent is looked up, and where a fresh packet is settled.
+abbrev pub AsksHop : Stage → Deed → Type 0
+AsksHop stage.Fresh (deed.Tx packet) = ⊤
+AsksHop (stage.Judged h packet) d = ⊤
+AsksHop _ d = ⊥
+
+-- Where a turn asks for a next hop, the line's is the desk's.
+abbrev pub HopIsOwn : (Addr → Addr) → Stage → Deed → View → Type 0
+HopIsOwn via s d w = AsksHop s d → w.via ≡ via
 
 -- A line that is answered left nothing behind, its events and its answer have a path, and it sealed under
 -- the packet ids that it drew.
-pub record Over (material : ℕ → Option Material) (via : Addr → Addr) (place : Place) (line : Line) (w : Shown) (a : Answer) : Type 0 where
+pub record Over (via : Addr → Addr) (place : Place) (line : Line) (w : View) (a : Answer) : Type 0 where
   pub owes : w.owing ≡ []
   pub hold : w.hold ≡ NoHold
-  pub path : Path material via place line (steps_in w.events) (judgements_in w.events) a
+  pub path : Path w.material via place line (steps_in w.events) (judgements_in w.events) a
   pub drawn : draws_in w.events ≡ sealed_ids a
 
-abbrev pub Progressed : (ℕ → Option Material) → (Addr → Addr) → Place → Line → Shown → Stand → Option Answer → Progress → Type 0
-Progressed material via place line w s a More = Walking material via place line w s a × IsOpen s w.owing
-Progressed material via place line w s a (Answered b) = Over material via place line w b
-
--- What was ready is what is answered.
-abbrev pub AnswerIs : Progress → Option Answer → Type 0
-AnswerIs More a = ⊥
-AnswerIs (Answered b) a = a ≡ Some b
-
--- A turn made the one event that was asked for.
-pub record Made {D : Type 0} (does : Event → D → Type 0) (asked : Ask) (old new : Shown) (desk : D) : Type 0 where
-  pub event : Event
-  pub one : new.events ≡ old.events ++ event ∷ []
-  pub asks : request event ≡ asked
-  pub done : does event desk
-
--- A turn made the one event that was asked for, or none where the line is answered without one.
-pub data MadeOrNone {D : Type 0} (does : Event → D → Type 0) (asked : Ask) (old new : Shown) (before after : D) : Type 0 where
-  made : Made does asked old new after → MadeOrNone does asked old new before after
-  nothing : asked ≡ Nil → after ≡ before → MadeOrNone does asked old new before after
-
--- A line that goes on has made an event.
-abbrev pub MadeBy : {D : Type 0} → Progress → (Event → D → Type 0) → Ask → Shown → Shown → D → D → Type 0
-MadeBy More does asked old new before after = Made does asked old new after
-MadeBy (Answered b) does asked old new before after = MadeOrNone does asked old new before after
-
--- ---- the stages of a turn
-
--- A stage is one part of a turn, at a desk of any kind: `shown`, `material`, `via` and `does` are what the
--- trait Desk says of it.
-
--- By what the desk shows of the line, the walk stands there.
-abbrev pub Stands : {D : Type 0} → (D → Shown) → (D → ℕ → Option Material) → (D → Addr → Addr) → D → Line → Walk → Stand → Type 0
-Stands shown material via desk line walk s = Walking (material desk) (via desk) walk.place line (shown desk) s walk.answer
-
 -- The walk stands where it says, and has an event or an answer to come.
-abbrev pub GoesOn : {D : Type 0} → (D → Shown) → (D → ℕ → Option Material) → (D → Addr → Addr) → D → Line → Walk → Type 0
-GoesOn shown material via desk line walk = Stands shown material via desk line walk walk.stand × IsOpen walk.stand (shown desk).owing
+abbrev pub GoesOn : (Addr → Addr) → Place → Line → View → Stage → Type 0
+GoesOn via place line w s = Walking via place line w s × IsOpen s w.owing
 
 -- The walk goes on, or its line is over, as the turn answers.
-abbrev pub Turned : {D : Type 0} → (D → Shown) → (D → ℕ → Option Material) → (D → Addr → Addr) → D → Line → Walk → Progress → Type 0
-Turned shown material via desk line walk r = Progressed (material desk) (via desk) walk.place line (shown desk) walk.stand walk.answer r
+abbrev pub Progressed : (Addr → Addr) → Place → Line → View → Stage → Progress → Type 0
+Progressed via place line w s More = GoesOn via place line w s
+Progressed via place line w s (Answered a) = Over via place line w a
 
--- The stage made the one event that came next.
-abbrev pub MadeNext : {D : Type 0} → (D → Shown) → (D → ℕ → Option Material) → (D → Addr → Addr) → (D → Event → D → Type 0) → Line → (before after : D) → Type 0
-MadeNext shown material via does line before after = Made (does before) (next (via before) (material after) line (shown before).events (shown before).owing) (shown before) (shown after) after
+-- The same of a walk and its place.
+abbrev pub Stands : (Addr → Addr) → Line → View → Walk → Type 0
+Stands via line w walk = Walking via walk.place line w walk.stage
 
--- Whatever the stage did, the desk has what it had of the keys and the same next hops, and the walk its
--- place.
-pub record Stays {D : Type 0} (material : D → ℕ → Option Material) (via : D → Addr → Addr) (before after : D) (old new : Walk) : Type 0 where
-  pub keys : Grows (material before) (material after)
-  pub hops : via after ≡ via before
-  pub place : new.place ≡ old.place
+abbrev pub Turned : (Addr → Addr) → Line → View → Walk → Progress → Type 0
+Turned via line w walk r = Progressed via walk.place line w walk.stage r
+
+-- An event tells the place and the moment of its line.
+abbrev pub IsOwn : Place → ℕ → Event → Type 0
+IsOwn place at (Stepped s) = (s.entry.place ≡ place) × (s.entry.call.at ≡ at)
+IsOwn place at (Judged j) = (j.place ≡ place) × (j.at ≡ at)
+IsOwn place at (Drew key d) = ⊤
+IsOwn place at (GaveKey key g) = ⊤
+IsOwn place at (GavePeer peer g) = ⊤
+
+-- What a line asks for next, by its events and what it owes; of a key all that is had after the turn.
+abbrev pub next_at : (Addr → Addr) → Line → (old new : View) → Ask
+next_at via line old new = next via new.material line old.events old.owing
+
+-- What a turn did at a desk of any kind: `view` and `does` are what the trait Desk says of it.
+module _ {D : Type 0} (view : D → View) (does : D → Event → D → Type 0) (via : Addr → Addr) (place : Place) (line : Line) where
+  -- It made the one event that comes next for the line.
+  pub record Made (old new : D) : Type 0 where
+    pub event : Event
+    pub one : (view new).events ≡ (view old).events ++ event ∷ []
+    pub asks : request event ≡ next_at via line (view old) (view new)
+    pub own : IsOwn place line.at event
+    pub done : does old event new
+
+  -- It made that event, or none where the line is answered without one.
+  pub data MadeOrNone (old new : D) : Type 0 where
+    made : Made old new → MadeOrNone old new
+    nothing : next_at via line (view old) (view new) ≡ Nil → new ≡ old → MadeOrNone old new
+
+  -- A line that goes on has made an event.
+  abbrev pub MadeBy : Progress → (old new : D) → Type 0
+  MadeBy More old new = Made old new
+  MadeBy (Answered a) old new = MadeOrNone old new
+
+-- Whatever a turn did, the desk has what it had of the keys, and the walk its place.
+pub record Stays (old new : View) (was walk : Walk) : Type 0 where
+  pub keys : Grows old.material new.material
+  pub place : walk.place ≡ was.place
+
+-- After want of memory all of the line is as it was.
+pub record Kept (old new : View) (was walk : Walk) : Type 0 where
+  pub line : SameLine old new
+  pub walk_is : walk ≡ was

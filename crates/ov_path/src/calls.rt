@@ -31,7 +31,7 @@ pub fn sent_of(hold: &HoldView, packet: &[u8]) -> Act
 pub fn settle_of<D: Desk>(desk: &D, hold: &HoldView, packet: &[u8], datagram: &[u8]) -> Act
     requires packet { length packet.now ≤ 65536 }
     requires datagram { length datagram.now ≤ 65536 }
-    ensures { result ≡ settle_act (D.via desk.now) hold.now packet.now datagram.now }
+    ensures { result ≡ settle_act (D.view desk.now).via hold.now packet.now datagram.now }
 {
     Act::Settle {
         peer: hold.peer,
@@ -44,7 +44,7 @@ pub fn settle_of<D: Desk>(desk: &D, hold: &HoldView, packet: &[u8], datagram: &[
 
 /// What kind a packet is to the table.
 fn kind_at<D: Desk>(desk: &D, packet: &[u8]) -> InnerKind
-    ensures { result ≡ kind_via (D.via desk.now) (kind_of packet.now) }
+    ensures { result ≡ kind_via (D.view desk.now).via (kind_of packet.now) }
 {
     if is_keepalive(packet) {
         return InnerKind::Ping;

@@ -6,9 +6,11 @@ mod calls;
 mod desk;
 mod open;
 mod seal;
+mod stage;
 #[cfg(test)]
 mod tests;
 mod walk;
 
 pub use desk::Desk;
+pub use stage::{Purpose, Stage};
 pub use walk::{Progress, Walk};

@@ -1,12 +1,12 @@
 // From a received datagram to the inner packet in it.
 
 ghost use Rattle.std.specs.Prelude.{◌≡◌, ◌≤◌, length, IfOk, IfSome};
-ghost use Rattle.ov_model.specs.Packets.{head_of, opened, packet_id_of, sealed_part};
-ghost use Rattle.ov_path.specs.Parts.{IsData, text_if};
+ghost use Rattle.ov_model.specs.Packets.{opened, packet_id_of, sealed_part};
+ghost use Rattle.ov_path.specs.Parts.{text_if};
 
 use ov_base::{ListOf, Memory, Octets};
 use ov_keys::KeyPair;
-use ov_packet::{nonce, read_head};
+use ov_packet::nonce;
 use std::alloc::Global;
 
 /// The bytes of a head, and those of the tag behind it. The ciphertext stands behind both.
@@ -14,27 +14,21 @@ const HEAD_BYTES: usize = 8;
 
 const TAG_BYTES: usize = 16;
 
-/// The packet id in the head of a data packet, which has a head and a tag.
-pub fn packet_id(datagram: &[u8]) -> u32
-    requires data { IsData (head_of datagram.now) }
-    ensures id { result ≡ packet_id_of datagram.now }
-    ensures long { 24 ≤ length datagram.now }
-{
-    match read_head(datagram) {
-        Ok(head) => head.packet_id,
-        Err(_) => unreachable!(),
-    }
-}
-
-/// The inner packet of a data packet of at most 65,560 bytes, opened in the one copy that is answered;
-/// `None` exactly where the tag isn't that of key, nonce, head and ciphertext. `Memory` is free.
-pub fn open(alloc: Global, pair: &KeyPair, datagram: &[u8]) -> Result<Option<Octets>, Memory>
-    requires data { IsData (head_of datagram.now) }
+/// The inner packet of a data packet of at most 65,560 bytes, whose head has the packet id `id`, opened in
+/// the one copy that is answered; `None` exactly where the tag isn't that of key, nonce, head and
+/// ciphertext. `Memory` is free.
+pub fn open(
+    alloc: Global,
+    pair: &KeyPair,
+    id: u32,
+    datagram: &[u8],
+) -> Result<Option<Octets>, Memory>
+    requires id { id ≡ packet_id_of datagram.now }
+    requires long { 24 ≤ length datagram.now }
     requires most { length datagram.now ≤ 65560 }
     ensures ok { IfOk result (λ packet. packet ≡ opened pair.now.decrypt datagram.now) }
     ensures short { IfOk result (λ packet. IfSome packet (λ text. length text ≤ length datagram.now)) }
 {
-    let id = packet_id(datagram);
     let (_, sealed) = datagram.split_at(HEAD_BYTES + TAG_BYTES);
     let mut text = Vec::from_slice(alloc, sealed)?;
     if !unseal(pair, id, datagram, text.as_mut_slice()) {

@@ -12,6 +12,8 @@ use std::alloc::Global;
 /// The bytes of a head, and those of a head and its tag, behind which the ciphertext stands.
 const HEAD_BYTES: usize = 8;
 
+const TAG_BYTES: usize = 16;
+
 const FRONT_BYTES: usize = 24;
 
 /// The datagram of an inner packet of at most 65,536 bytes, under the key of a hold and a packet id: head,

@@ -57,7 +57,7 @@ fn held() -> Option<(HoldView, KeyPair)> {
 /// Opens a datagram where its head is that of a data packet.
 fn opened(alloc: Global, pair: &KeyPair, datagram: &[u8; 44]) -> Result<Option<Octets>, Memory> {
     match read_head(datagram) {
-        Ok(_) => open(alloc, pair, datagram),
+        Ok(head) => open(alloc, pair, head.packet_id, datagram),
         Err(_) => Ok(None),
     }
 }

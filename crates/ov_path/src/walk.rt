@@ -1,32 +1,35 @@
 // The turns of one line: each makes the next event of the line, and the last one answers it.
 
-ghost use Rattle.std.specs.Prelude.{ℕ, ◌≡◌, [], None, Some, OnOk, OnErr, IfOk, IsSome, Option};
+ghost use Rattle.std.specs.Prelude.{◌≡◌, [], Some, OnOk, OnErr, IfOk};
 ghost use Rattle.ov_base.specs.declared.address.Addr.{Addr};
-ghost use Rattle.ov_model.specs.declared.draw.Drawn.TheVariants as drawn;
 ghost use Rattle.ov_model.specs.declared.line.Line.{Line};
 ghost use Rattle.ov_model.specs.declared.act.Act.TheVariants as act;
-ghost use Rattle.ov_model.specs.declared.stand.Stand.TheVariants as stand;
-ghost use Rattle.ov_model.specs.Tables.{Material};
+ghost use Rattle.ov_model.specs.declared.draw.Drawn.TheVariants as drawn;
 ghost use Rattle.ov_model.specs.Path.{begins, cause_of, first, settled_answer, IsLook};
-ghost use Rattle.ov_model.specs.Events.{Event};
-ghost use Rattle.ov_model.specs.Next.{next, is_killed, stand_of};
-ghost use Rattle.ov_path.specs.Desks.{NoHold, HoldsKey, IsUnused, first_owed, Grows};
+ghost use Rattle.ov_model.specs.Next.{is_killed, stand_of};
 ghost use Rattle.ov_model.specs.Sizes.{Fits};
-ghost use Rattle.ov_path.specs.Parts.{refusal};
-ghost use Rattle.ov_path.specs.Walks.{Walking, IsOpen, Progressed, IsTx, IsRx, AnswerIs, MadeBy, Stands, GoesOn, Turned, MadeNext, Stays};
+ghost use Rattle.ov_model.specs.declared.stand.Use.TheVariants as used;
+ghost use Rattle.ov_path.specs.declared.stage.Purpose.TheVariants as purpose;
+ghost use Rattle.ov_path.specs.declared.stage.Stage.TheVariants as stage;
+ghost use Rattle.ov_path.specs.declared.walk.Progress.TheVariants.{More};
+ghost use Rattle.ov_path.specs.Desks.{View, IsNew, SameLine, Grows, HoldsKey, IsUnused, first_owed};
+ghost use Rattle.ov_path.specs.Parts.{refusal, PurposeFits};
+ghost use Rattle.ov_path.specs.Walks.{Walking, Stands, Turned, IsOpen, HopIsOwn, GoesOn, Made, MadeBy, Stays, Kept};
 
 use crate::begun::{Begun, begin_of};
 use crate::calls::{sent_of, settle_of};
 use crate::desk::Desk;
-use crate::open::{open, packet_id};
+use crate::open::open;
 use crate::seal::seal;
+use crate::stage::{Purpose, Stage};
 use ov_base::{Memory, Octets};
 use ov_keys::KeyPair;
 use ov_model::{
     Act, Answer, Call, Command, Deed, Drawn, DropCause, HoldView, Line, Owed, Place, Refusal,
-    Reply, SealedOut, Settled, Stand, Use, Verdict,
+    Reply, SealedOut, Settled, Use, Verdict,
 };
 use std::alloc::Global;
+use std::mem;
 
 /// Whether a line goes on.
 #[derive(Debug, Drop, PartialEq, Eq)]
@@ -37,106 +40,132 @@ pub enum Progress {
     Answered(Answer),
 }
 
-/// One line that runs: where it stands, and its answer where that is known.
+/// One line that runs, and where it stands.
 #[derive(Debug, Drop)]
 pub struct Walk {
     pub place: Place,
-    pub stand: Stand,
-    pub answer: Option<Answer>,
+    pub stage: Stage,
 }
 
 impl Walk {
     /// A line that has not begun. At a desk that shows nothing of it, it can take its first turn.
     pub fn new(place: Place) -> Walk
-        ensures new { result ≡ record { place = place; stand = stand.Fresh; answer = None } }
-        ensures ready { (material : ℕ → Option Material) (via : Addr → Addr) (line : Line) →
-            Walking material via place line (record { events = []; hold = NoHold; owing = [] }) stand.Fresh None }
+        ensures new { result ≡ record { place = place; stage = stage.Fresh } }
+        ensures ready { (via : Addr → Addr) (line : Line) (w : View) → IsNew w →
+            Walking via place line w stage.Fresh }
     {
         Walk {
             place,
-            stand: Stand::Fresh,
-            answer: None,
+            stage: Stage::Fresh,
         }
     }
 
-    /// Makes the release that is owed first.
-    fn release<D: Desk>(&mut self, desk: &mut D, line: &Line, owed: Owed)
-        requires at { Stands D.shown D.material D.via desk.old line.now self.old self.old.stand }
-        requires first { first_owed (D.shown desk.old).owing ≡ Some owed }
-        ensures then { Stands D.shown D.material D.via desk.new line.now self.new self.new.stand }
-        ensures made { MadeNext D.shown D.material D.via D.does line.now desk.old desk.new }
-        ensures stays { Stays D.material D.via desk.old desk.new self.old self.new }
+    /// Makes the line's next turn: the one event that comes next, or none where the line is answered without
+    /// one. What is owed is released first. `alloc` is where the datagram that is sealed, or the packet
+    /// that is opened, takes its room. At `Memory`, which is free, neither the walk nor what the desk
+    /// shows of the line has changed. `via` is the next hop of an address as the line asks for it: only the
+    /// look-up of a packet and the settling of a datagram ask, each at its own turn.
+    pub fn turn<D: Desk>(
+        &mut self,
+        alloc: Global,
+        desk: &mut D,
+        line: &Line,
+    ) -> Result<Progress, Memory>
+        ghost via: { Addr → Addr }
+        // What it needs.
+        requires at { Stands via line.now (D.view desk.old) self.old }
+        requires open { IsOpen self.old.stage (D.view desk.old).owing }
+        requires hop { HopIsOwn via self.old.stage line.now.deed (D.view desk.old) }
+        requires fits { Fits line.now.deed }
+        // What it made.
+        ensures then { IfOk result (λ r. Turned via line.now (D.view desk.new) self.new r) }
+        ensures made { IfOk result (λ r.
+            MadeBy D.view D.does via self.old.place line.now r desk.old desk.new) }
+        // What stays.
+        ensures err { OnErr result (Kept (D.view desk.old) (D.view desk.new) self.old self.new) }
+        ensures stays { Stays (D.view desk.old) (D.view desk.new) self.old self.new }
+    {
+        if let Some(owed) = desk.owed() {
+            return Ok(self.release(desk, line, owed));
+        }
+        // Where memory is wanting, the stage is put back.
+        match mem::replace(&mut self.stage, Stage::Fresh) {
+            Stage::Fresh => self.begin(desk, line),
+            Stage::Looked(hold, purpose) => {
+                self.stage = Stage::Looked(hold, purpose);
+                self.stage = put_to_use(alloc, desk, self.place, line, hold, purpose)?;
+                Ok(Progress::More)
+            }
+            Stage::Drew(hold, Drawn::Id(id)) => {
+                self.stage = Stage::Drew(hold, Drawn::Id(id));
+                self.stage = send(alloc, desk, self.place, line, hold, id)?;
+                Ok(Progress::More)
+            }
+            Stage::Drew(hold, Drawn::Spent) => {
+                self.stage = Stage::Drew(hold, Drawn::Spent);
+                self.stage = spend(desk, self.place, line, hold)?;
+                Ok(Progress::More)
+            }
+            Stage::Judged(hold, packet) => self.settle(desk, line, hold, packet),
+            Stage::Used(hold, made, answer) => {
+                self.key_back(desk, line, hold, made, answer);
+                Ok(Progress::More)
+            }
+            Stage::KeyGiven(hold, made, answer) => {
+                Ok(self.peer_back(desk, line, hold, made, answer))
+            }
+            Stage::Replied(_) => unreachable!(),
+            Stage::PeerGiven(_, _, _) => unreachable!(),
+        }
+    }
+
+    /// Makes the release that is owed first. The line may be over then.
+    fn release<D: Desk>(&mut self, desk: &mut D, line: &Line, owed: Owed) -> Progress
+        ghost via: { Addr → Addr }
+        requires at { Stands via line.now (D.view desk.old) self.old }
+        requires first { first_owed (D.view desk.old).owing ≡ Some owed }
+        ensures then { Turned via line.now (D.view desk.new) self.new result }
+        ensures made { MadeBy D.view D.does via self.old.place line.now result desk.old desk.new }
+        ensures stays { Stays (D.view desk.old) (D.view desk.new) self.old self.new }
     {
         desk.release(self.place, line.at, owed);
-    }
-
-    /// The key's counter is asked for a packet id.
-    fn draw<D: Desk>(&mut self, desk: &mut D, line: &Line, hold: HoldView)
-        requires at { Stands D.shown D.material D.via desk.old line.now self.old (stand.Looked hold) }
-        requires tx { IsTx line.now.deed }
-        ensures then { GoesOn D.shown D.material D.via desk.new line.now self.new }
-        ensures made { MadeNext D.shown D.material D.via D.does line.now desk.old desk.new }
-        ensures stays { Stays D.material D.via desk.old desk.new self.old self.new }
-    {
-        let drawn = desk.draw(hold.key);
-        self.stand = Stand::Drew(hold, drawn);
-    }
-
-    /// The hold on the key is given back, after it was used.
-    fn key_back<D: Desk>(&mut self, desk: &mut D, line: &Line, hold: HoldView, made: Use)
-        requires at { Stands D.shown D.material D.via desk.old line.now self.old (stand.Used hold made) }
-        ensures then { GoesOn D.shown D.material D.via desk.new line.now self.new }
-        ensures made { MadeNext D.shown D.material D.via D.does line.now desk.old desk.new }
-        ensures stays { Stays D.material D.via desk.old desk.new self.old self.new }
-    {
-        desk.give_back_key(hold.key);
-        self.stand = Stand::KeyGiven(hold, made);
-    }
-
-    /// The hold on the peer is given back, after that on the key.
-    fn peer_back<D: Desk>(&mut self, desk: &mut D, line: &Line, hold: HoldView, made: Use)
-        requires at { Stands D.shown D.material D.via desk.old line.now self.old (stand.KeyGiven hold made) }
-        requires none { (D.shown desk.old).owing ≡ [] }
-        ensures then { Stands D.shown D.material D.via desk.new line.now self.new self.new.stand }
-        ensures made { MadeNext D.shown D.material D.via D.does line.now desk.old desk.new }
-        ensures stays { Stays D.material D.via desk.old desk.new self.old self.new }
-    {
-        desk.give_back(hold.peer);
-        self.stand = Stand::PeerGiven(hold, made);
+        self.finish(desk, line)
     }
 
     /// Answers the line where its last event was made and nothing is owed.
     fn finish<D: Desk>(&mut self, desk: &D, _line: &Line) -> Progress
-        requires at { Stands D.shown D.material D.via desk.now _line.now self.old self.old.stand }
-        ensures then { Turned D.shown D.material D.via desk.now _line.now self.new result }
+        ghost via: { Addr → Addr }
+        requires at { Stands via _line.now (D.view desk.now) self.old }
+        ensures then { Turned via _line.now (D.view desk.now) self.new result }
         ensures place { self.new.place ≡ self.old.place }
     {
         if desk.owed().is_some() {
             return Progress::More;
         }
-        match self.stand {
-            Stand::Replied => self.answered(),
-            Stand::PeerGiven(_, _) => self.answered(),
-            Stand::Fresh => Progress::More,
-            Stand::Missed => Progress::More,
-            Stand::Looked(_) => Progress::More,
-            Stand::Drew(_, _) => Progress::More,
-            Stand::Judged(_) => Progress::More,
-            Stand::Used(_, _) => Progress::More,
-            Stand::KeyGiven(_, _) => Progress::More,
+        match mem::replace(&mut self.stage, Stage::Fresh).into_answer() {
+            Ok(answer) => Progress::Answered(answer),
+            Err(stage) => {
+                self.stage = stage;
+                Progress::More
+            }
         }
     }
 
-    /// The answer that is ready.
-    fn answered(&mut self) -> Progress
-        requires ready { IsSome self.old.answer }
-        ensures answer { AnswerIs result self.old.answer }
-        ensures place { self.new.place ≡ self.old.place }
-        ensures stand { self.new.stand ≡ self.old.stand }
+    /// The line begins, or is answered at once.
+    fn begin<D: Desk>(&mut self, desk: &mut D, line: &Line) -> Result<Progress, Memory>
+        ghost via: { Addr → Addr }
+        requires at { Walking via self.old.place line.now (D.view desk.old) stage.Fresh }
+        requires hop { HopIsOwn via stage.Fresh line.now.deed (D.view desk.old) }
+        ensures then { IfOk result (λ r. Turned via line.now (D.view desk.new) self.new r) }
+        ensures made { IfOk result (λ r.
+            MadeBy D.view D.does via self.old.place line.now r desk.old desk.new) }
+        ensures err { OnErr result (Kept (D.view desk.old) (D.view desk.new) self.old self.new) }
+        ensures stays { Stays (D.view desk.old) (D.view desk.new) self.old self.new }
     {
-        match self.answer.take() {
-            Some(answer) => Progress::Answered(answer),
-            None => unreachable!(),
+        match begin_of(desk, &line.deed) {
+            Begun::AtOnce(answer) => Ok(Progress::Answered(answer)),
+            Begun::Command(command) => self.command(desk, line, command),
+            Begun::Look(act, purpose) => self.look(desk, line, act, purpose),
         }
     }
 
@@ -147,38 +176,47 @@ impl Walk {
         line: &Line,
         command: Command,
     ) -> Result<Progress, Memory>
-        requires at { Stands D.shown D.material D.via desk.old line.now self.old stand.Fresh }
-        requires begins { begins (D.via desk.old) line.now.deed ≡ first (act.Do command) }
-        ensures then { IfOk result (λ r. Turned D.shown D.material D.via desk.new line.now self.new r) }
-        ensures made { OnOk result (MadeNext D.shown D.material D.via D.does line.now desk.old desk.new) }
-        ensures err { OnErr result ((D.shown desk.new ≡ D.shown desk.old) × (self.new ≡ self.old)) }
-        ensures stays { Stays D.material D.via desk.old desk.new self.old self.new }
+        ghost via: { Addr → Addr }
+        requires at { Walking via self.old.place line.now (D.view desk.old) stage.Fresh }
+        requires begins { begins via line.now.deed ≡ first (act.Do command) }
+        ensures then { IfOk result (λ r. Turned via line.now (D.view desk.new) self.new r) }
+        ensures made { IfOk result (λ r.
+            MadeBy D.view D.does via self.old.place line.now r desk.old desk.new) }
+        ensures err { OnErr result (Kept (D.view desk.old) (D.view desk.new) self.old self.new) }
+        ensures stays { Stays (D.view desk.old) (D.view desk.new) self.old self.new }
     {
         let call = Call {
             at: line.at,
             act: Act::Do(command),
         };
         let reply = desk.table(self.place, &call)?;
-        self.stand = Stand::Replied;
-        self.answer = Some(Answer::Reply(reply));
+        self.stage = Stage::Replied(Answer::Reply(reply));
         Ok(self.finish(desk, line))
     }
 
     /// A look-up is made. Where it finds nothing the line is answered.
-    fn look<D: Desk>(&mut self, desk: &mut D, line: &Line, act: Act) -> Result<Progress, Memory>
-        requires at { Stands D.shown D.material D.via desk.old line.now self.old stand.Fresh }
-        requires begins { begins (D.via desk.old) line.now.deed ≡ first act }
+    fn look<D: Desk>(
+        &mut self,
+        desk: &mut D,
+        line: &Line,
+        act: Act,
+        purpose: Purpose,
+    ) -> Result<Progress, Memory>
+        ghost via: { Addr → Addr }
+        requires at { Walking via self.old.place line.now (D.view desk.old) stage.Fresh }
+        requires begins { begins via line.now.deed ≡ first act }
         requires look { IsLook act }
-        requires none { self.old.answer ≡ None }
-        ensures then { IfOk result (λ r. Turned D.shown D.material D.via desk.new line.now self.new r) }
-        ensures made { OnOk result (MadeNext D.shown D.material D.via D.does line.now desk.old desk.new) }
-        ensures err { OnErr result ((D.shown desk.new ≡ D.shown desk.old) × (self.new ≡ self.old)) }
-        ensures stays { Stays D.material D.via desk.old desk.new self.old self.new }
+        requires purpose { PurposeFits line.now.deed purpose }
+        ensures then { IfOk result (λ r. Turned via line.now (D.view desk.new) self.new r) }
+        ensures made { IfOk result (λ r.
+            MadeBy D.view D.does via self.old.place line.now r desk.old desk.new) }
+        ensures err { OnErr result (Kept (D.view desk.old) (D.view desk.new) self.old self.new) }
+        ensures stays { Stays (D.view desk.old) (D.view desk.new) self.old self.new }
     {
         let call = Call { at: line.at, act };
         match desk.table(self.place, &call)? {
             Reply::Hold(hold) => {
-                self.stand = Stand::Looked(hold);
+                self.stage = Stage::Looked(hold, purpose);
                 Ok(Progress::More)
             }
             Reply::NoPeer => Ok(Progress::Answered(Answer::Dropped(DropCause::NoPeer))),
@@ -187,249 +225,230 @@ impl Walk {
         }
     }
 
-    /// The line begins, or is answered at once.
-    fn begin<D: Desk>(&mut self, desk: &mut D, line: &Line) -> Result<Progress, Memory>
-        requires at { Stands D.shown D.material D.via desk.old line.now self.old stand.Fresh }
-        ensures then { IfOk result (λ r. Turned D.shown D.material D.via desk.new line.now self.new r) }
-        ensures made { IfOk result (λ r. MadeBy r (D.does desk.old) (next (D.via desk.old) (D.material desk.new) line.now (D.shown desk.old).events (D.shown desk.old).owing) (D.shown desk.old) (D.shown desk.new) desk.old desk.new) }
-        ensures err { OnErr result ((D.shown desk.new ≡ D.shown desk.old) × (self.new ≡ self.old)) }
-        ensures stays { Stays D.material D.via desk.old desk.new self.old self.new }
-    {
-        match begin_of(desk, &line.deed) {
-            Begun::AtOnce(answer) => Ok(Progress::Answered(answer)),
-            Begun::Command(command) => self.command(desk, line, command),
-            Begun::Look(act) => self.look(desk, line, act),
-        }
-    }
-
-    /// The packet is sealed under the packet id that was drawn, and counted as sent.
-    fn send<D: Desk>(
-        &mut self,
-        alloc: Global,
-        desk: &mut D,
-        line: &Line,
-        hold: HoldView,
-        id: u32,
-    ) -> Result<(), Memory>
-        requires at { Stands D.shown D.material D.via desk.old line.now self.old (stand.Drew hold (drawn.Id id)) }
-        requires fits { Fits line.now.deed }
-        ensures then { OnOk result (GoesOn D.shown D.material D.via desk.new line.now self.new) }
-        ensures made { OnOk result (MadeNext D.shown D.material D.via D.does line.now desk.old desk.new) }
-        ensures err { OnErr result ((D.shown desk.new ≡ D.shown desk.old) × (self.new ≡ self.old)) }
-        ensures stays { Stays D.material D.via desk.old desk.new self.old self.new }
-    {
-        let Deed::Tx(packet) = &line.deed else {
-            unreachable!();
-        };
-        let pair = pair_of(desk, hold.key);
-        let datagram = seal(alloc, &hold, &pair, id, packet.as_slice())?;
-        let call = Call {
-            at: line.at,
-            act: sent_of(&hold, packet.as_slice()),
-        };
-        desk.table(self.place, &call)?;
-        self.stand = Stand::Used(hold, Use::Sealed(id));
-        self.answer = Some(Answer::Sealed(SealedOut {
-            to: hold.to,
-            key: hold.key,
-            id,
-            datagram,
-        }));
-        Ok(())
-    }
-
-    /// The key has no packet id left: it is taken out of its slot, where it still stands in one.
-    fn spend<D: Desk>(&mut self, desk: &mut D, line: &Line, hold: HoldView) -> Result<(), Memory>
-        requires at { Stands D.shown D.material D.via desk.old line.now self.old (stand.Drew hold drawn.Spent) }
-        ensures then { OnOk result (GoesOn D.shown D.material D.via desk.new line.now self.new) }
-        ensures made { OnOk result (MadeNext D.shown D.material D.via D.does line.now desk.old desk.new) }
-        ensures err { OnErr result ((D.shown desk.new ≡ D.shown desk.old) × (self.new ≡ self.old)) }
-        ensures stays { Stays D.material D.via desk.old desk.new self.old self.new }
-    {
-        let Deed::Tx(_) = &line.deed else {
-            unreachable!();
-        };
-        let call = Call {
-            at: line.at,
-            act: Act::Spend {
-                peer: hold.peer,
-                key: hold.key,
-            },
-        };
-        let reply = desk.table(self.place, &call)?;
-        let killed = was_killed(&reply);
-        self.stand = Stand::Used(hold, Use::Spent(killed));
-        self.answer = Some(Answer::Dropped(DropCause::Spent));
-        Ok(())
-    }
-
-    /// A datagram is opened. Where its tag verifies its packet id is judged, else the key is given back.
-    fn receive<D: Desk>(
-        &mut self,
-        alloc: Global,
-        desk: &mut D,
-        line: &Line,
-        hold: HoldView,
-    ) -> Result<(), Memory>
-        requires at { Stands D.shown D.material D.via desk.old line.now self.old (stand.Looked hold) }
-        requires rx { IsRx line.now.deed }
-        requires fits { Fits line.now.deed }
-        ensures then { OnOk result (GoesOn D.shown D.material D.via desk.new line.now self.new) }
-        ensures made { OnOk result (MadeNext D.shown D.material D.via D.does line.now desk.old desk.new) }
-        ensures err { OnErr result ((D.shown desk.new ≡ D.shown desk.old) × (self.new ≡ self.old)) }
-        ensures stays { Stays D.material D.via desk.old desk.new self.old self.new }
-    {
-        let Deed::Rx { datagram, .. } = &line.deed else {
-            unreachable!();
-        };
-        let pair = pair_of(desk, hold.key);
-        let packet = match open(alloc, &pair, datagram.as_slice())? {
-            Some(packet) => packet,
-            None => {
-                desk.give_back_key(hold.key);
-                self.stand = Stand::KeyGiven(hold, Use::BadTag);
-                self.answer = Some(Answer::Dropped(DropCause::BadTag));
-                return Ok(());
-            }
-        };
-        let id = packet_id(datagram.as_slice());
-        let verdict = desk.replay(self.place, hold.key, id, line.at)?;
-        match refusal_of(verdict) {
-            Some(refusal) => {
-                self.stand = Stand::Used(hold, Use::Refused(refusal));
-                self.answer = Some(Answer::Dropped(dropped_as(refusal)));
-                Ok(())
-            }
-            None => {
-                self.stand = Stand::Judged(hold);
-                self.answer = Some(Answer::Delivered {
-                    peer: hold.id,
-                    packet,
-                });
-                Ok(())
-            }
-        }
-    }
-
     /// A fresh packet is settled: what becomes of it is the answer.
-    fn settle<D: Desk>(&mut self, desk: &mut D, line: &Line, hold: HoldView) -> Result<(), Memory>
-        requires at { Stands D.shown D.material D.via desk.old line.now self.old (stand.Judged hold) }
-        requires fits { Fits line.now.deed }
-        ensures then { OnOk result (GoesOn D.shown D.material D.via desk.new line.now self.new) }
-        ensures made { OnOk result (MadeNext D.shown D.material D.via D.does line.now desk.old desk.new) }
-        ensures err { OnErr result ((D.shown desk.new ≡ D.shown desk.old) × (self.new ≡ self.old)) }
-        ensures stays { Stays D.material D.via desk.old desk.new self.old self.new }
-    {
-        let Deed::Rx { datagram, .. } = &line.deed else {
-            unreachable!();
-        };
-        let Some(Answer::Delivered { packet, .. }) = &self.answer else {
-            unreachable!();
-        };
-        let act = settle_of(desk, &hold, packet.as_slice(), datagram.as_slice());
-        let Reply::Settled(settled) = desk.table(self.place, &Call { at: line.at, act })? else {
-            unreachable!();
-        };
-        let Some(Answer::Delivered { packet, .. }) = self.answer.take() else {
-            unreachable!();
-        };
-        self.stand = Stand::Used(hold, Use::Settled(settled));
-        self.answer = Some(settled_as(settled, &hold, packet));
-        Ok(())
-    }
-
-    /// What is held is put to use: a counter is asked, or a datagram opened.
-    fn put_to_use<D: Desk>(
+    fn settle<D: Desk>(
         &mut self,
-        alloc: Global,
         desk: &mut D,
         line: &Line,
         hold: HoldView,
-    ) -> Result<(), Memory>
-        requires at { Stands D.shown D.material D.via desk.old line.now self.old (stand.Looked hold) }
+        packet: Octets,
+    ) -> Result<Progress, Memory>
+        ghost via: { Addr → Addr }
+        requires at { Walking via self.old.place line.now (D.view desk.old) (stage.Judged hold packet) }
+        requires hop { (D.view desk.old).via ≡ via }
         requires fits { Fits line.now.deed }
-        ensures then { OnOk result (GoesOn D.shown D.material D.via desk.new line.now self.new) }
-        ensures made { OnOk result (MadeNext D.shown D.material D.via D.does line.now desk.old desk.new) }
-        ensures err { OnErr result ((D.shown desk.new ≡ D.shown desk.old) × (self.new ≡ self.old)) }
-        ensures stays { Stays D.material D.via desk.old desk.new self.old self.new }
+        ensures then { OnOk result (GoesOn via self.new.place line.now (D.view desk.new) self.new.stage) }
+        ensures made { OnOk result (Made D.view D.does via self.old.place line.now desk.old desk.new) }
+        ensures more { IfOk result (λ r. r ≡ More) }
+        ensures err { OnErr result (SameLine (D.view desk.old) (D.view desk.new)) }
+        ensures kept { OnErr result (self.new ≡ record self.old { stage = stage.Judged hold packet }) }
+        ensures stays { Stays (D.view desk.old) (D.view desk.new) self.old self.new }
     {
-        match &line.deed {
-            Deed::Netlink(_) => unreachable!(),
-            Deed::Tx(_) => {
-                self.draw(desk, line, hold);
-                Ok(())
+        let settled = match settled(desk, self.place, line, &hold, packet.as_slice()) {
+            Ok(settled) => settled,
+            Err(memory) => {
+                self.stage = Stage::Judged(hold, packet);
+                return Err(memory);
             }
-            Deed::Rx { .. } => self.receive(alloc, desk, line, hold),
-        }
+        };
+        let answer = settled_as(settled, &hold, packet);
+        self.stage = Stage::Used(hold, Use::Settled(settled), answer);
+        Ok(Progress::More)
     }
 
-    /// Makes the line's next turn: the one event that comes next, or none where the line is answered without
-    /// one. What is owed is released first. `alloc` is where the datagram that is sealed, or the packet
-    /// that is opened, takes its room. At `Memory`, which is free, neither the walk nor what the desk
-    /// shows of it has changed.
-    pub fn turn<D: Desk>(
+    /// The hold on the key is given back, after it was used.
+    fn key_back<D: Desk>(
         &mut self,
-        alloc: Global,
         desk: &mut D,
         line: &Line,
-    ) -> Result<Progress, Memory>
-        requires at { Walking (D.material desk.old) (D.via desk.old) self.old.place line.now (D.shown desk.old) self.old.stand self.old.answer }
-        requires open { IsOpen self.old.stand (D.shown desk.old).owing }
-        requires fits { Fits line.now.deed }
-        ensures then { IfOk result (λ r. Progressed (D.material desk.new) (D.via desk.new) self.new.place line.now (D.shown desk.new) self.new.stand self.new.answer r) }
-        ensures made { IfOk result (λ r. MadeBy r (D.does desk.old) (next (D.via desk.old) (D.material desk.new) line.now (D.shown desk.old).events (D.shown desk.old).owing) (D.shown desk.old) (D.shown desk.new) desk.old desk.new) }
-        ensures err { OnErr result (D.shown desk.new ≡ D.shown desk.old) }
-        ensures kept { OnErr result (self.new ≡ self.old) }
-        ensures grows { Grows (D.material desk.old) (D.material desk.new) }
-        ensures via { D.via desk.new ≡ D.via desk.old }
-        ensures place { self.new.place ≡ self.old.place }
+        hold: HoldView,
+        made: Use,
+        answer: Answer,
+    )
+        ghost via: { Addr → Addr }
+        requires at { Walking via self.old.place line.now (D.view desk.old) (stage.Used hold made answer) }
+        ensures then { GoesOn via self.new.place line.now (D.view desk.new) self.new.stage }
+        ensures made { Made D.view D.does via self.old.place line.now desk.old desk.new }
+        ensures stays { Stays (D.view desk.old) (D.view desk.new) self.old self.new }
     {
-        if let Some(owed) = desk.owed() {
-            self.release(desk, line, owed);
-            return Ok(self.finish(desk, line));
-        }
-        match self.stand {
-            Stand::Fresh => self.begin(desk, line),
-            Stand::Looked(hold) => {
-                self.put_to_use(alloc, desk, line, hold)?;
-                Ok(Progress::More)
-            }
-            Stand::Drew(hold, Drawn::Id(id)) => {
-                self.send(alloc, desk, line, hold, id)?;
-                Ok(Progress::More)
-            }
-            Stand::Drew(hold, Drawn::Spent) => {
-                self.spend(desk, line, hold)?;
-                Ok(Progress::More)
-            }
-            Stand::Judged(hold) => {
-                self.settle(desk, line, hold)?;
-                Ok(Progress::More)
-            }
-            Stand::Used(hold, made) => {
-                self.key_back(desk, line, hold, made);
-                Ok(Progress::More)
-            }
-            Stand::KeyGiven(hold, made) => {
-                self.peer_back(desk, line, hold, made);
-                Ok(self.finish(desk, line))
-            }
-            Stand::Replied => unreachable!(),
-            Stand::Missed => unreachable!(),
-            Stand::PeerGiven(_, _) => unreachable!(),
-        }
+        desk.give_back_key(hold.key);
+        self.stage = Stage::KeyGiven(hold, made, answer);
+    }
+
+    /// The hold on the peer is given back, after that on the key. The line may be over then.
+    fn peer_back<D: Desk>(
+        &mut self,
+        desk: &mut D,
+        line: &Line,
+        hold: HoldView,
+        made: Use,
+        answer: Answer,
+    ) -> Progress
+        ghost via: { Addr → Addr }
+        requires at {
+            Walking via self.old.place line.now (D.view desk.old) (stage.KeyGiven hold made answer) }
+        requires none { (D.view desk.old).owing ≡ [] }
+        ensures then { Turned via line.now (D.view desk.new) self.new result }
+        ensures made { MadeBy D.view D.does via self.old.place line.now result desk.old desk.new }
+        ensures stays { Stays (D.view desk.old) (D.view desk.new) self.old self.new }
+    {
+        desk.give_back(hold.peer);
+        self.stage = Stage::PeerGiven(hold, made, answer);
+        self.finish(desk, line)
     }
 }
 
+/// What is held is put to use: a counter is asked, or a datagram opened.
+fn put_to_use<D: Desk>(
+    alloc: Global,
+    desk: &mut D,
+    place: Place,
+    line: &Line,
+    hold: HoldView,
+    purpose: Purpose,
+) -> Result<Stage, Memory>
+    ghost via: { Addr → Addr }
+    requires at { Walking via place line.now (D.view desk.old) (stage.Looked hold purpose) }
+    requires fits { Fits line.now.deed }
+    ensures then { IfOk result (λ s. GoesOn via place line.now (D.view desk.new) s) }
+    ensures made { OnOk result (Made D.view D.does via place line.now desk.old desk.new) }
+    ensures err { OnErr result (SameLine (D.view desk.old) (D.view desk.new)) }
+    ensures grows { Grows (D.view desk.old).material (D.view desk.new).material }
+{
+    match purpose {
+        Purpose::Seal => {
+            let drawn = desk.draw(hold.key);
+            Ok(Stage::Drew(hold, drawn))
+        }
+        Purpose::Open(id) => receive(alloc, desk, place, line, hold, id),
+    }
+}
+
+/// The packet is sealed under the packet id that was drawn, and counted as sent.
+fn send<D: Desk>(
+    alloc: Global,
+    desk: &mut D,
+    place: Place,
+    line: &Line,
+    hold: HoldView,
+    id: u32,
+) -> Result<Stage, Memory>
+    ghost via: { Addr → Addr }
+    requires at { Walking via place line.now (D.view desk.old) (stage.Drew hold (drawn.Id id)) }
+    requires fits { Fits line.now.deed }
+    ensures then { IfOk result (λ s. GoesOn via place line.now (D.view desk.new) s) }
+    ensures made { OnOk result (Made D.view D.does via place line.now desk.old desk.new) }
+    ensures err { OnErr result (SameLine (D.view desk.old) (D.view desk.new)) }
+    ensures grows { Grows (D.view desk.old).material (D.view desk.new).material }
+{
+    let Deed::Tx(packet) = &line.deed else {
+        unreachable!();
+    };
+    let datagram = seal(alloc, &hold, pair_of(desk, hold.key), id, packet.as_slice())?;
+    let act = sent_of(&hold, packet.as_slice());
+    desk.table(place, &Call { at: line.at, act })?;
+    let answer = Answer::Sealed(SealedOut {
+        to: hold.to,
+        key: hold.key,
+        id,
+        datagram,
+    });
+    Ok(Stage::Used(hold, Use::Sealed(id), answer))
+}
+
+/// The key has no packet id left: it is taken out of its slot, where it still stands in one.
+fn spend<D: Desk>(
+    desk: &mut D,
+    place: Place,
+    line: &Line,
+    hold: HoldView,
+) -> Result<Stage, Memory>
+    ghost via: { Addr → Addr }
+    requires at { Walking via place line.now (D.view desk.old) (stage.Drew hold drawn.Spent) }
+    ensures then { IfOk result (λ s. GoesOn via place line.now (D.view desk.new) s) }
+    ensures made { OnOk result (Made D.view D.does via place line.now desk.old desk.new) }
+    ensures err { OnErr result (SameLine (D.view desk.old) (D.view desk.new)) }
+    ensures grows { Grows (D.view desk.old).material (D.view desk.new).material }
+{
+    let act = Act::Spend {
+        peer: hold.peer,
+        key: hold.key,
+    };
+    let reply = desk.table(place, &Call { at: line.at, act })?;
+    let made = Use::Spent(was_killed(&reply));
+    Ok(Stage::Used(hold, made, Answer::Dropped(DropCause::Spent)))
+}
+
+/// A datagram is opened, whose head has this packet id. Where its tag verifies the id is judged, else the
+/// key is given back.
+fn receive<D: Desk>(
+    alloc: Global,
+    desk: &mut D,
+    place: Place,
+    line: &Line,
+    hold: HoldView,
+    id: u32,
+) -> Result<Stage, Memory>
+    ghost via: { Addr → Addr }
+    requires at { Walking via place line.now (D.view desk.old) (stage.Looked hold (purpose.Open id)) }
+    requires fits { Fits line.now.deed }
+    ensures then { IfOk result (λ s. GoesOn via place line.now (D.view desk.new) s) }
+    ensures made { OnOk result (Made D.view D.does via place line.now desk.old desk.new) }
+    ensures err { OnErr result (SameLine (D.view desk.old) (D.view desk.new)) }
+    ensures grows { Grows (D.view desk.old).material (D.view desk.new).material }
+{
+    let Deed::Rx { datagram, .. } = &line.deed else {
+        unreachable!();
+    };
+    let opened = open(alloc, pair_of(desk, hold.key), id, datagram.as_slice())?;
+    let Some(packet) = opened else {
+        desk.give_back_key(hold.key);
+        let answer = Answer::Dropped(DropCause::BadTag);
+        return Ok(Stage::KeyGiven(hold, Use::BadTag, answer));
+    };
+    let verdict = desk.replay(place, hold.key, id, line.at)?;
+    match refusal_of(verdict) {
+        Some(refusal) => {
+            let answer = Answer::Dropped(dropped_as(refusal));
+            Ok(Stage::Used(hold, Use::Refused(refusal), answer))
+        }
+        None => Ok(Stage::Judged(hold, packet)),
+    }
+}
+
+/// The table says what becomes of a fresh packet.
+fn settled<D: Desk>(
+    desk: &mut D,
+    place: Place,
+    line: &Line,
+    hold: &HoldView,
+    packet: &[u8],
+) -> Result<Settled, Memory>
+    ghost via: { Addr → Addr }
+    requires at { Walking via place line.now (D.view desk.old) (stage.Judged hold.now packet.now) }
+    requires hop { (D.view desk.old).via ≡ via }
+    requires fits { Fits line.now.deed }
+    ensures then { IfOk result (λ s. Walking via place line.now (D.view desk.new)
+        (stage.Used hold.now (used.Settled s) (settled_answer s hold.now packet.now))) }
+    ensures made { OnOk result (Made D.view D.does via place line.now desk.old desk.new) }
+    ensures err { OnErr result (SameLine (D.view desk.old) (D.view desk.new)) }
+    ensures grows { Grows (D.view desk.old).material (D.view desk.new).material }
+{
+    let Deed::Rx { datagram, .. } = &line.deed else {
+        unreachable!();
+    };
+    let act = settle_of(desk, hold, packet, datagram.as_slice());
+    let Reply::Settled(settled) = desk.table(place, &Call { at: line.at, act })? else {
+        unreachable!();
+    };
+    Ok(settled)
+}
+
 /// The two directions of a key that is held.
-fn pair_of<D: Desk>(desk: &mut D, key: u32) -> KeyPair
-    requires held { HoldsKey (D.shown desk.old).hold key }
-    requires unused { IsUnused (stand_of (D.shown desk.old).events) }
-    ensures has { D.material desk.new key ≡ Some result }
-    ensures same { D.shown desk.new ≡ D.shown desk.old }
-    ensures quiet { (e : Event) (d : D) → D.does desk.new e d → D.does desk.old e d }
-    ensures grows { Grows (D.material desk.old) (D.material desk.new) }
-    ensures via { D.via desk.new ≡ D.via desk.old }
+fn pair_of<D: Desk>(desk: &D, key: u32) -> &KeyPair
+    requires held { HoldsKey (D.view desk.now).hold key }
+    requires unused { IsUnused (stand_of (D.view desk.now).events) }
+    ensures has { (D.view desk.now).material key ≡ Some result.now }
 {
     match desk.pair(key) {
         Some(pair) => pair,

@@ -2,7 +2,7 @@
 
 ghost use Rattle.std.specs.Prelude.{◌≡◌, ◌<◌, ◌++◌, [], IfOk, vec_len};
 ghost use Rattle.std.specs.Vec.{vec_capacity};
-ghost use Rattle.ov_path.specs.Desks.{NoHold, held_after, owed_if, IsReplyOf, HasMaterial};
+ghost use Rattle.ov_path.specs.Desks.{NoHold, IsNew, held_after, owed_if, IsReplyOf, HasMaterial};
 ghost use Rattle.ov_path.specs.Plain.{Joined, one_key, listed, shown_of};
 
 use super::told::{Kind, Past, Told};
@@ -92,7 +92,7 @@ impl Plain {
     /// A desk with one peer, which has this address inside the tunnel, and one key. `next` is what the
     /// counter gives first.
     pub fn new(alloc: Global, peer: HoldView, vpn: Addr, pair: KeyPair, next: u64) -> Plain
-        ensures { shown_of result ≡ record { events = []; hold = NoHold; owing = [] } }
+        ensures { IsNew (shown_of result) }
     {
         Plain {
             alloc,
@@ -122,7 +122,8 @@ impl Plain {
 
     /// Begins a line: nothing happened yet, and nothing is held or owed.
     pub fn begin(&mut self)
-        ensures { shown_of self.new ≡ record { events = []; hold = NoHold; owing = [] } }
+        ensures new { IsNew (shown_of self.new) }
+        ensures hop { self.new.hop ≡ self.old.hop }
     {
         self.past.clear();
         self.hold = Hold::none();
@@ -186,16 +187,12 @@ impl Plain {
 }
 
 impl Desk for Plain {
-    ghost use Rattle.std.specs.Prelude.{⊤};
-    ghost use Rattle.ov_path.specs.Plain.{shown_of, one_key, hop_or};
+    ghost use Rattle.std.specs.Prelude.{◌≡◌};
+    ghost use Rattle.ov_path.specs.Plain.{shown_of};
 
-    ghost shown = { λ p. shown_of p };
+    ghost view = { λ p. shown_of p };
 
-    ghost material = { λ p. one_key p.pair };
-
-    ghost via = { λ p. hop_or p.hop };
-
-    ghost does = { λ p event q. ⊤ };
+    ghost does = { λ p event q. q.hop ≡ p.hop };
 
     fn table(&mut self, place: Place, call: &Call) -> Result<Reply, Memory> {
         let reply = self.decide(&call.act)?;
@@ -208,8 +205,8 @@ impl Desk for Plain {
         Ok(reply)
     }
 
-    fn pair(&mut self, _key: u32) -> Option<KeyPair> {
-        Some(self.pair)
+    fn pair(&self, _key: u32) -> Option<&KeyPair> {
+        Some(&self.pair)
     }
 
     fn replay(&mut self, place: Place, key: u32, id: u32, at: u32) -> Result<Verdict, Memory> {

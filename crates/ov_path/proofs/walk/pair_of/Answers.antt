@@ -5,5 +5,5 @@ use Rattle.ov_path.proofs.walk.pair_of.Goals as goal
 pub unreachable-requires : goal.unreachable-requires
 unreachable-requires g c = let there : is_some c.pair.result ≡ true = c.pair.ensures.some c.requires.held c.requires.unused in let none : is_some c.pair.result ≡ false = rw c.in-None.is refl in cc
 
-pub returns-clause-has : goal.returns-clause-has
-returns-clause-has g c = c.pair.ensures.is _ c.in-Some.is
+pub returns : goal.returns
+returns g c = record { has = c.pair.ensures.is _ (rw c.in-Some.is refl) }

@@ -1,10 +1,8 @@
-use Rattle.ov_path.proofs.Ending.{finished_replied, finished_held, nothing_owed}
+use Rattle.std.proofs.Common.{rules, sym, ◌∙◌, ap}
+use Rattle.std.specs.Prelude.{Ok}
+use Rattle.ov_path.specs.Stages.{ends}
+use Rattle.ov_path.proofs.Ending.{finish_by}
 use Rattle.ov_path.proofs.walk.Walk.finish.Goals as goal
 
-pub returns-in-Replied-clause-then : goal.returns-in-Replied-clause-then
-returns-in-Replied-clause-then g c =
-    finished_replied _ _ c.answered.result c.requires.at c.in-Replied.is c.answered.ensures.answer (nothing_owed _ _ _ c.owed.ensures.first c.is_some.ensures c.if-is_some.false) c.answered.ensures.place
-
-pub returns-in-PeerGiven-clause-then : goal.returns-in-PeerGiven-clause-then
-returns-in-PeerGiven-clause-then g c =
-    finished_held _ _ c.in-PeerGiven.field-0 c.in-PeerGiven.field-1 c.answered-in-PeerGiven.result c.requires.at c.in-PeerGiven.is c.answered-in-PeerGiven.ensures.answer (nothing_owed _ _ _ c.owed.ensures.first c.is_some.ensures c.if-is_some.false) c.answered-in-PeerGiven.ensures.place
+pub returns-in-Ok-clause-then : goal.returns-in-Ok-clause-then
+returns-in-Ok-clause-then g c = finish_by (Ok c.in-Ok.answer) _ _ c.requires.1 (sym c.in-Ok.is ∙ c.into_answer.ensures.ends ∙ ap ends (search rules)) c.owed.ensures.first c.is_some.ensures c.if-is_some.false

@@ -1,5 +1,13 @@
+use Rattle.std.proofs.Common.{refl}
 use Rattle.ov_path.proofs.Going.{peer_given_step}
+use Rattle.ov_path.proofs.Making.{peer_made, made_by}
 use Rattle.ov_path.proofs.walk.Walk.peer_back.Goals as goal
 
-pub returns-clause-then : goal.returns-clause-then
-returns-clause-then g c = peer_given_step _ c.requires.at c.requires.none c.give_back.ensures.grows c.give_back.ensures.via c.give_back.ensures.event
+pub finish-requires : goal.finish-requires
+finish-requires g c = λ κs l. (l, peer_given_step c.give_back.result c.requires.1.0 c.requires.1.1 c.give_back.ensures.gave)
+
+pub returns-clause-made : goal.returns-clause-made
+returns-clause-made g c = made_by c.finish.result (peer_made c.give_back.result c.requires.1.0 c.requires.1.1 c.give_back.ensures.gave)
+
+pub returns-clause-stays : goal.returns-clause-stays
+returns-clause-stays g c = record { keys = c.give_back.ensures.gave.leaves.grows; place = c.finish.ensures.place }
