@@ -3,6 +3,7 @@ pub mod PlainText
 pub mod TxText
 pub mod RxText
 pub mod Fitting
+pub mod HexLanes
 pub mod Judging
 pub mod Lines
 pub mod Names

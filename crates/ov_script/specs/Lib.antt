@@ -3,3 +3,4 @@ pub mod Keyconf
 pub mod Grammar
 pub mod Reading
 pub mod Compact
+pub mod Digits

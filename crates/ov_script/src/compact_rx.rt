@@ -5,8 +5,9 @@ ghost use Rattle.ov_model.specs.declared.line.Line.{Line};
 ghost use Rattle.ov_script.specs.Compact as spec;
 ghost use Rattle.ov_script.specs.Grammar.{Says};
 
+use crate::digits::bytes_of;
 use crate::packets::MOST_DATAGRAM;
-use crate::parts::{after, bytes_of, number, octets_of, until_quote};
+use crate::parts::{after, number, octets_of, until_quote};
 use ov_base::{Addr, Memory, Transport};
 use ov_model::{Deed, Line};
 use std::alloc::Global;

@@ -5,8 +5,9 @@ ghost use Rattle.ov_model.specs.declared.line.Line.{Line};
 ghost use Rattle.ov_script.specs.Compact as spec;
 ghost use Rattle.ov_script.specs.Grammar.{Says};
 
+use crate::digits::bytes_of;
 use crate::packets::MOST_PACKET;
-use crate::parts::{after, before, bytes_of, number};
+use crate::parts::{after, before, number};
 use ov_base::Memory;
 use ov_model::{Deed, Line};
 use std::alloc::Global;

@@ -4,10 +4,13 @@
 pub mod compact;
 pub mod compact_rx;
 pub mod compact_tx;
+pub mod digits;
 pub mod grammar;
 pub mod keyconf;
 pub mod line;
 pub mod member;
+#[cfg(test)]
+mod odd_lines_tests;
 #[cfg(test)]
 mod packet_tests;
 pub mod packets;

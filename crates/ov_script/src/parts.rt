@@ -1,14 +1,10 @@
 //! The parts of a compact text, each taken off its front or its end.
 
-ghost use Rattle.std.specs.Prelude.{◌≡◌, ◌≢◌, ◌++◌, ℕ, List, Ok, IfOk, IfSome, MatchOption, decimal};
+ghost use Rattle.std.specs.Prelude.{◌≡◌, ◌≢◌, ◌++◌, ℕ, List, IfSome, MatchOption, decimal};
 ghost use Rattle.std.specs.Net.Grammar.{IsDotted};
-ghost use Rattle.hex.specs.Hex.{decode_of};
 
-use hex::FromHexError;
 use itoa::Buffer;
 use memchr::memchr;
-use ov_base::{Memory, Octets};
-use std::alloc::Global;
 use std::net::Ipv4Addr;
 
 /// What follows a front.
@@ -47,17 +43,6 @@ pub fn number(text: &[u8]) -> Option<(u32, &[u8])>
     let mut buffer = Buffer::new();
     let rest = after(text, buffer.format(number).as_bytes())?;
     Some((number, rest))
-}
-
-/// The bytes of some hexadecimal digits; `None` where they are none.
-pub fn bytes_of(alloc: Global, digits: &[u8]) -> Result<Option<Octets>, Memory>
-    ensures { IfOk result (λ found. IfSome found (λ bytes. decode_of digits.now ≡ Ok bytes)) }
-{
-    match hex::decode(alloc, digits) {
-        Ok(bytes) => Ok(Some(Octets::of_vec(bytes))),
-        Err(FromHexError::OutOfMemory) => Err(Memory),
-        Err(_) => Ok(None),
-    }
 }
 
 /// The text in front of the first quote, and the rest from the quote on.
