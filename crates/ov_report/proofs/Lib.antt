@@ -4,3 +4,6 @@ pub mod Passing
 pub mod Texts
 pub mod Counting
 pub mod Sets
+pub mod Lines
+pub mod Plain
+pub mod Woven

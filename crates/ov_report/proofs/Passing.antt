@@ -131,3 +131,17 @@ part_at_end old mid new text rest a part =
 -- A line isn't empty: it has its end.
 pub line_some : (d : Data) → 0 < length (line_text d)
 line_some d = omega (arith, length-append (compact_text d) (10 ∷ []))
+
+-- A page that a text was put on, and that was then passed on: so the text passed.
+pub refilled : (old new : Option (List ℕ)) (page held text rest : List ℕ) → page ≡ held ++ text → Passed old new [] page rest → Passed old new held text rest
+refilled old new page held text rest is p =
+    let q : Passed old new [] (held ++ text) rest = subst (λ t. Passed old new [] t rest) is p in
+    record { sent = q.sent; taken = q.taken; split = q.split; early = q.early }
+
+pub refilled_stop : (why : PrintStop) (old new : Option (List ℕ)) (before now : ℕ) (page held text : List ℕ) → page ≡ held ++ text → Stopped why old new before now [] page → Stopped why old new before now held text
+refilled_stop why old new before now page held text is s = record {
+  rest = s.rest;
+  passed = refilled old new page held text s.rest is s.passed;
+  some = s.some;
+  rose = s.rose;
+}

@@ -151,6 +151,9 @@ reply_data (reply.Released n) = one (codes "released") (num n)
 reply_data (reply.KeyReleased n) = one (codes "key-released") (num n)
 reply_data (reply.Refused e) = one (codes "error") (num (errno_number e))
 
+unfoldable pub reply_text : Reply → List ℕ
+reply_text r = compact_text (reply_data r)
+
 -- A transport, and bytes as hexadecimal digits in lower case.
 abbrev pub addr_text : Addr → List ℕ
 addr_text (V4 a) = ipv4_text a
@@ -195,6 +198,9 @@ answer_data (answer.Delivered peer packet) = one (codes "delivered") (object (de
 answer_data (answer.Keepalive id) = one (codes "keepalive") (num id.number)
 answer_data answer.Control = one (codes "passed") (string (codes "control"))
 answer_data (answer.Dropped c) = one (codes "dropped") (string (cause_name c))
+
+unfoldable pub given_text : Answer → List ℕ
+given_text a = compact_text (answer_data a)
 
 -- An entry of the journal with its number from 0.
 unfoldable pub entry_data : ℕ → Entry → Data

@@ -4,13 +4,17 @@
 pub mod answer;
 pub mod counts;
 pub mod differ;
+mod digits;
+mod lanes;
 pub mod laws;
 mod listed;
 pub mod members;
 pub mod page;
+mod pieces;
 pub mod print;
 #[cfg(test)]
 mod print_tests;
+mod reply;
 pub mod summary;
 #[cfg(test)]
 mod tests;

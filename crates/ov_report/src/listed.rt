@@ -1,13 +1,13 @@
 //! The lists of a report, each member of which is a line of the report's text.
 
-ghost use Rattle.std.specs.Prelude.{◌≡◌, ◌<◌, ◌≤◌, List, ℕ, length, IfOk, IfErr, OnOk};
+ghost use Rattle.std.specs.Prelude.{◌≡◌, ◌<◌, ◌≤◌, ◌++◌, List, ℕ, length, IfErr, OnOk};
 ghost use Rattle.ov_report.specs.Print as spec;
 ghost use Rattle.ov_report.specs.Printing.{Passed, Stopped, full_page, texts};
 
-use crate::answer::answer_line;
-use crate::page::{PrintStop, put};
-use crate::print::{entry_line, note_line, replay_line};
-use ov_base::{Memory, Octets, Sink};
+use crate::answer::append_answer;
+use crate::page::{PrintStop, pass};
+use crate::print::{append_entry, append_note, append_replay};
+use ov_base::{Memory, Sink};
 use ov_model::{Answer, Entry, Note, ReplayEntry};
 use std::alloc::Global;
 
@@ -18,41 +18,65 @@ use std::alloc::Global;
 pub(crate) trait Listed {
     ghost text: { ℕ → ℕ → Self → List ℕ };
 
-    /// The line, with its end.
-    fn line(&self, alloc: Global, owner: u32, number: u64) -> Result<Octets, Memory>
-        ensures text { IfOk result (λ line. line ≡ text owner number self.now) }
+    /// Puts the line, with its end, at the end of a page.
+    fn append(&self, alloc: Global, owner: u32, number: u64, page: &mut Vec<u8>) -> Result<(), Memory>
+        ensures text { OnOk result (page.new.items ≡ page.old.items ++ text owner number self.now) }
         ensures some { 0 < length (text owner number self.now) };
 }
 
 impl Listed for Entry {
     ghost text = { λ owner number entry. spec.entry_text number entry };
 
-    fn line(&self, alloc: Global, _owner: u32, number: u64) -> Result<Octets, Memory> {
-        entry_line(alloc, number, self)
+    fn append(
+        &self,
+        alloc: Global,
+        _owner: u32,
+        number: u64,
+        page: &mut Vec<u8>,
+    ) -> Result<(), Memory> {
+        append_entry(alloc, page, number, self)
     }
 }
 
 impl Listed for ReplayEntry {
     ghost text = { λ owner number step. spec.replay_text owner step };
 
-    fn line(&self, alloc: Global, owner: u32, _number: u64) -> Result<Octets, Memory> {
-        replay_line(alloc, owner, self)
+    fn append(
+        &self,
+        _alloc: Global,
+        owner: u32,
+        _number: u64,
+        page: &mut Vec<u8>,
+    ) -> Result<(), Memory> {
+        append_replay(page, owner, self)
     }
 }
 
 impl Listed for Answer {
     ghost text = { λ owner number answer. spec.answer_text owner number answer };
 
-    fn line(&self, alloc: Global, owner: u32, number: u64) -> Result<Octets, Memory> {
-        answer_line(alloc, owner, number, self)
+    fn append(
+        &self,
+        alloc: Global,
+        owner: u32,
+        number: u64,
+        page: &mut Vec<u8>,
+    ) -> Result<(), Memory> {
+        append_answer(alloc, page, owner, number, self)
     }
 }
 
 impl Listed for Note {
     ghost text = { λ owner number note. spec.note_text note };
 
-    fn line(&self, alloc: Global, _owner: u32, _number: u64) -> Result<Octets, Memory> {
-        note_line(alloc, self)
+    fn append(
+        &self,
+        alloc: Global,
+        _owner: u32,
+        _number: u64,
+        page: &mut Vec<u8>,
+    ) -> Result<(), Memory> {
+        append_note(alloc, page, self)
     }
 }
 
@@ -72,8 +96,8 @@ pub(crate) fn print_list<T: Listed, K: Sink>(
 {
     let mut number: u64 = 0;
     for member in list {
-        let line = member.line(alloc, owner, number)?;
-        put(line.as_slice(), page, sink)?;
+        member.append(alloc, owner, number, page)?;
+        pass(page, sink)?;
         number += 1;
     }
     Ok(())

@@ -1,14 +1,13 @@
 //! The members of a JSON object, put one by one; serde_json's map keeps them in ascending byte order.
 
-ghost use Rattle.std.specs.Prelude.{◌≡◌, false, OnOk, IfOk};
+ghost use Rattle.std.specs.Prelude.{◌≡◌, OnOk, IfOk};
 ghost use Rattle.std.specs.Net.Text.{ipv4_text};
-ghost use Rattle.serde_json.specs.Data.{object, string, put as with_member};
+ghost use Rattle.serde_json.specs.Data.{object, put as with_member};
 ghost use Rattle.serde_json.specs.View.{view, members_view};
 ghost use Rattle.hex.specs.Hex.{encode_lower};
-ghost use Rattle.serde_json.specs.Written.{has_float};
 ghost use Rattle.ov_report.specs.Print as spec;
 
-use ov_base::{Memory, Octets};
+use ov_base::Memory;
 use serde_json::{Map, Value, put};
 use std::alloc::Global;
 use std::net::Ipv4Addr;
@@ -67,14 +66,6 @@ pub fn one(alloc: Global, name: &str, value: Value) -> Result<Value, Memory>
     Ok(object_of(members))
 }
 
-/// An object with one name, whose value is a text.
-pub fn one_text(alloc: Global, name: &str, text: &str) -> Result<Value, Memory>
-    ensures { IfOk result (λ v. view v ≡ spec.one name.now (string text.now)) }
-{
-    let owned = String::from_str(alloc, text)?;
-    one(alloc, name, Value::String(owned))
-}
-
 /// A list of serials.
 pub fn numbers(alloc: Global, serials: &[u32]) -> Result<Value, Memory>
     ensures { IfOk result (λ v. view v ≡ spec.nums serials.now) }
@@ -110,29 +101,4 @@ pub fn put_ipv6(
 {
     let text = hex::encode(alloc, octets)?;
     put_text(members, alloc, name, text.as_str())
-}
-
-/// Bytes as hexadecimal digits in lower case, two for each.
-pub fn put_bytes(
-    members: &mut Members,
-    alloc: Global,
-    name: &str,
-    bytes: &[u8],
-) -> Result<(), Memory>
-    ensures { OnOk result (members_view members.new.entries ≡ spec.put_bytes name.now bytes.now (members_view members.old.entries)) }
-{
-    let text = hex::encode(alloc, bytes)?;
-    put(members, alloc, name, Value::String(text))?;
-    Ok(())
-}
-
-/// The line of a value without floats: its compact text and a line end.
-pub fn line_of(alloc: Global, value: &Value) -> Result<Octets, Memory>
-    requires floats { has_float (view value.now) ≡ false }
-    ensures { IfOk result (λ line. line ≡ spec.line_text (view value.now)) }
-{
-    let text = value.to_string(alloc)?;
-    let mut bytes = text.into_bytes();
-    bytes.push(b'\n')?;
-    Ok(Octets::of_vec(bytes))
 }

@@ -68,16 +68,14 @@ pub(crate) fn flush<K: Sink>(page: &mut Vec<u8>, sink: &mut K) -> Result<(), Wri
     Ok(())
 }
 
-/// Prints a line, which isn't empty. The page then holds less than a full one.
-pub(crate) fn put<K: Sink>(line: &[u8], page: &mut Vec<u8>, sink: &mut K) -> Result<(), PrintStop>
-    requires some { 0 < length line.now }
-    ensures passed { OnOk result (Passed (K.written sink.old) (K.written sink.new) page.old.items line.now page.new.items) }
-    ensures stopped { IfErr result (λ stop. Stopped stop (K.written sink.old) (K.written sink.new) (K.faults sink.old) (K.faults sink.new) page.old.items line.now) }
+/// Writes the page where it is full. It then holds less than a full one.
+pub(crate) fn pass<K: Sink>(page: &mut Vec<u8>, sink: &mut K) -> Result<(), PrintStop>
+    ensures passed { OnOk result (Passed (K.written sink.old) (K.written sink.new) [] page.old.items page.new.items) }
+    ensures stopped { IfErr result (λ stop. Stopped stop (K.written sink.old) (K.written sink.new) (K.faults sink.old) (K.faults sink.new) [] page.old.items) }
     ensures bound { OnOk result (length page.new.items < full_page) }
     ensures later { K.faults sink.old ≤ K.faults sink.new }
     ensures kept { OnOk result (K.faults sink.new ≡ K.faults sink.old) }
 {
-    page.extend_from_slice(line)?;
     if page.len() >= FULL {
         flush(page, sink)?;
     }

@@ -8,8 +8,8 @@ ghost use Rattle.ov_report.specs.Summary as spec;
 ghost use Rattle.ov_report.specs.Printing.{Passed, Stopped, full_page};
 
 use crate::listed::print_list;
-use crate::members::line_of;
-use crate::page::{PrintStop, flush, put};
+use crate::page::{PrintStop, flush, pass};
+use crate::pieces::{append, append_value};
 use crate::summary::{only_answers, summary};
 use ov_base::{ListOf, Sink};
 use ov_model::{ReplayEntry, Report};
@@ -52,8 +52,9 @@ fn print_summary<K: Sink>(
     ensures kept { OnOk result (K.faults sink.new ≡ K.faults sink.old) }
 {
     let counts = summary(alloc, report)?;
-    let line = line_of(alloc, &counts)?;
-    put(line.as_slice(), page, sink)
+    append_value(alloc, page, &counts)?;
+    append(page, b"\n")?;
+    pass(page, sink)
 }
 
 /// Prints all lines of a report.
