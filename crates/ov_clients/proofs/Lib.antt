@@ -1,4 +1,9 @@
+-- Lists in which each number of an interval stands once, and no other number: how long they are.
 pub mod Intervals
+-- From what each of two threads has drawn, and from what the one seat that is left knows, to the ids of
+-- both.
 pub mod Ids
+-- Entries of one thread, in order, and what one more changes.
 pub mod Orders
+-- Which of two that give a hold back was the last.
 pub mod Lasts

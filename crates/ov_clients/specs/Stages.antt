@@ -18,11 +18,13 @@ deeds Unmade = []
 deeds Live = Made ∷ []
 deeds Dying = Made ∷ Ended ∷ []
 
+-- the cells that are live
 abbrev pub live_cells : Stage → List ℕ
 live_cells Unmade = []
 live_cells Live = 0 ∷ []
 live_cells Dying = []
 
+-- the cells that are dying
 abbrev pub dying_cells : Stage → List ℕ
 dying_cells Unmade = []
 dying_cells Live = []

@@ -54,7 +54,7 @@ fn append_many<R: Wait>(
 /// Two threads append up to `count` entries each to one history. The answer is the history and how many each has appended:
 /// all positions are theirs, and each thread's entries stand in it once, in order.
 ///
-/// `Memory` is want of memory alone.
+/// `Memory` says that memory ran out. No clause ties it to that, and none says that a thread appends as many as it is asked to.
 pub fn append_on_two_threads<R: Threads + Wait + Sync>(
     rt: &R,
     alloc: Global,

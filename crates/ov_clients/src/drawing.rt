@@ -36,7 +36,7 @@ fn draw_many(
 
 /// Two threads draw `count` times each. Together they have the ids from 1 to twice `count`, each once.
 ///
-/// `Memory` is want of memory alone.
+/// `Memory` says that memory ran out; no clause ties it to that.
 pub fn draw_on_two_threads<R: Threads + Sync>(
     rt: &R,
     alloc: Global,

@@ -93,7 +93,8 @@ fn release(
 /// them is told that it was the last. `None` where the thing hasn't come to its end: where two
 /// threads couldn't hold it.
 ///
-/// `Memory` is want of memory alone.
+/// `Memory` says that memory ran out. No clause ties it to that, and none says when `None` comes: a test shows that the thing
+/// comes to its end.
 pub fn hold_on_two_threads<R: Threads + Wait + Sync>(
     rt: &R,
     alloc: Global,

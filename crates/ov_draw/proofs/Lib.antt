@@ -1,2 +1,4 @@
+-- Counting draws, and what one more draw changes.
 pub mod Counts
+-- Each step keeps the draw rule, and tells its caller what its clause says.
 pub mod Keeps

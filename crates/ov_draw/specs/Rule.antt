@@ -7,6 +7,7 @@ use Rattle.ov_base.specs.Sums.{total, between}
 use Rattle.ov_draw.specs.Drawer.{times}
 use Rattle.ov_draw.specs.declared.hand.Hand.{Hand}
 
+-- a seat's share
 abbrev pub share : Hand → ℕ
 share v = v.share
 
@@ -14,6 +15,7 @@ share v = v.share
 abbrev pub draws_of : ℕ → ℕ → Hand → ℕ
 draws_of k n v = times k n v.drawn
 
+-- 1 where that key is k, else 0
 abbrev pub stands_in : ℕ → Option ℕ → ℕ
 stands_in k None = 0
 stands_in k (Some j) = if j == k then 1 else 0
@@ -29,6 +31,7 @@ pub record Fits (first : ℕ) (words : List ℕ) (v : Hand) : Type 0 where
   -- where a seat has a key among its spent keys, that key's word is at 4294967296 or above
   pub ended : (k : ℕ) → Contains v.spent k → 4294967296 ≤ slice_index words k
 
+-- the rule: what holds of the words and of all views
 pub record Kept (first count : ℕ) (s : State (Unit {0}) Hand) : Type 0 where
   -- a word for each key, at `first` or above
   pub wide : length s.words ≡ count

@@ -59,7 +59,7 @@ impl Model for DrawSeat {
 impl Draws {
     /// Counters that all begin at `first`, and the seat with the whole share, which has drawn nothing.
     ///
-    /// `Memory` is want of memory alone.
+    /// `Memory` says that memory ran out; no clause ties it to that.
     pub fn new(alloc: Global, first: u32) -> Result<(Draws, DrawSeat), Memory>
         requires { 1 ≤ first }
         ensures first { IfOk result (λ r. r.0.first ≡ first) }

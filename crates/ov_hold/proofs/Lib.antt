@@ -1,2 +1,4 @@
+-- Cells that a seat knows are cells of the table.
 pub mod Fitting
+-- Each step on a cell keeps the rule.
 pub mod Holding

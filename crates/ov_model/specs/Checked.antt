@@ -41,12 +41,13 @@ bad_scope (Some n) = nat_lt 0 n
 abbrev pub only_one : Bool → Bool → Bool
 only_one a b = (a && not b) || (not a && b)
 
--- The remote address: one family at most is given.
+-- The remote address of peer-new. It has one family at most: `is_invalid` refuses both.
 abbrev pub remote_of_family : Option (List ℕ) → Option (List ℕ) → Option Addr
 remote_of_family (Some a) _ = Some (V4 a)
 remote_of_family None (Some a) = Some (V6 a)
 remote_of_family None None = None
 
+-- The remote address that a message gives, in whichever family it has one.
 abbrev pub remote_addr : NlPeer → Option Addr
 remote_addr p = remote_of_family p.remote_ipv4 p.remote_ipv6
 
@@ -61,10 +62,12 @@ is_invalid p =
     (bad_port p.local_port ||
     only_one (is_some p.keepalive_interval) (is_some p.keepalive_timeout))))))
 
+-- The remote transport: an address with its port, and none without both.
 abbrev pub transport_of : Option Addr → Option ℕ → Option Transport
 transport_of (Some a) (Some n) = Some (record { addr = a; port = n })
 transport_of _ _ = None
 
+-- The keepalive of peer-new: both its numbers of seconds, and none without both.
 abbrev pub keepalive_of : Option ℕ → Option ℕ → Option Keepalive
 keepalive_of (Some i) (Some t) = Some (record { interval = i; timeout = t })
 keepalive_of _ _ = None
@@ -74,7 +77,7 @@ keepalive_of _ _ = None
 abbrev pub attrs_of : PeerId → NlPeer → Attrs
 attrs_of id p = record { id = id; remote = transport_of (remote_addr p) p.remote_port; vpn4 = p.vpn_ipv4; vpn6 = p.vpn_ipv6; keepalive = keepalive_of p.keepalive_interval p.keepalive_timeout }
 
--- An operation on keys doesn't ask for a peer.
+-- An operation on peers with its peer and its id. An operation on keys doesn't ask for a peer.
 abbrev pub checked_peer : NlOp → NlPeer → Option PeerId → Result Command Errno
 checked_peer _ p None = Err Invalid
 checked_peer op.PeerNew p (Some id) = if is_invalid p then Err Invalid else Ok (command.PeerNew (attrs_of id p))
@@ -82,17 +85,19 @@ checked_peer op.PeerGet p (Some id) = Ok (command.PeerGet id)
 checked_peer op.PeerDel p (Some id) = Ok (command.Remove id Userspace)
 checked_peer op.KeyNew p (Some id) = Err Invalid
 
+-- The command of an operation on peers: it needs a peer with an id of 24 bits.
 abbrev pub checked_with : NlOp → Option NlPeer → Result Command Errno
 checked_with o None = Err Invalid
 checked_with o (Some p) = checked_peer o p (option_and_then peer_id p.id)
 
--- A key of AES has 16, 24 or 32 bytes (FIPS 197, section 5), and the tail of a nonce has 8.
+-- A key of AES has 16, 24 or 32 bytes (FIPS 197, section 5).
 abbrev pub key_bytes : List ℕ → Option KeyBytes
 key_bytes bytes =
     if length bytes == 16 then Some (K16 bytes) else
     (if length bytes == 24 then Some (K24 bytes) else
     (if length bytes == 32 then Some (K32 bytes) else None))
 
+-- A nonce tail has 8 bytes: with the packet id it makes the nonce of 12 (SP 800-38D, section 8.2.1).
 abbrev pub tail_bytes : List ℕ → Option (List ℕ)
 tail_bytes bytes = if length bytes == 8 then Some bytes else None
 
@@ -101,6 +106,7 @@ abbrev pub dir_of : Option KeyBytes → Option (List ℕ) → Option KeyDir
 dir_of (Some key) (Some tail) = Some (record { key = key; tail = tail })
 dir_of _ _ = None
 
+-- The direction of a message: its key and its tail in range.
 abbrev pub key_dir : NlKeyDir → Option KeyDir
 key_dir d = dir_of (option_and_then key_bytes d.cipher_key) (option_and_then tail_bytes d.nonce_tail)
 
@@ -109,6 +115,7 @@ abbrev pub conf_of : Option PeerId → Option Slot → Option KeyId → Option K
 conf_of (Some peer) (Some slot) (Some id) (Some encrypt) (Some decrypt) = Some (record { peer = peer; slot = slot; key_id = id; encrypt = encrypt; decrypt = decrypt })
 conf_of _ _ _ _ _ = None
 
+-- The attributes of a message's key, each there and in range.
 abbrev pub key_conf : NlKeyConf → Option KeyConf
 key_conf k = conf_of (option_and_then peer_id k.peer_id) k.slot (option_and_then key_id k.key_id) (option_and_then key_dir k.encrypt) (option_and_then key_dir k.decrypt)
 
@@ -118,10 +125,12 @@ with_cipher (Some AesGcm) (Some c) = Ok (command.KeyNew c)
 with_cipher (Some other) (Some c) = Err NotSupported
 with_cipher _ _ = Err Invalid
 
+-- The command of key-new: it needs all of its attributes, and the one cipher.
 abbrev pub checked_key : Option NlKeyConf → Result Command Errno
 checked_key None = Err Invalid
 checked_key (Some k) = with_cipher k.cipher (key_conf k)
 
+-- The command by the message's operation: key-new looks at the key, the others at the peer.
 abbrev pub checked_op : NlOp → NlMessage → Result Command Errno
 checked_op op.KeyNew m = checked_key m.keyconf
 checked_op o m = checked_with o m.peer

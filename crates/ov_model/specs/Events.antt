@@ -38,7 +38,7 @@ pub data Event : Type 0 where
   GaveKey : (key : ℕ) → Given → Event
   GavePeer : (peer : ℕ) → Given → Event
 
--- The table's steps and the replay steps among some events.
+-- The table's steps among some events.
 abbrev pub steps_in : List Event → List Step
 steps_in [] = []
 steps_in (Stepped s ∷ es) = s ∷ steps_in es
@@ -47,6 +47,7 @@ steps_in (Drew key d ∷ es) = steps_in es
 steps_in (GaveKey key g ∷ es) = steps_in es
 steps_in (GavePeer peer g ∷ es) = steps_in es
 
+-- The replay steps among some events.
 abbrev pub judgements_in : List Event → List Judgement
 judgements_in [] = []
 judgements_in (Stepped s ∷ es) = judgements_in es
@@ -55,15 +56,17 @@ judgements_in (Drew key d ∷ es) = judgements_in es
 judgements_in (GaveKey key g ∷ es) = judgements_in es
 judgements_in (GavePeer peer g ∷ es) = judgements_in es
 
--- A packet id that was drawn of a key, and the draws among some events.
+-- A packet id that was drawn of a key.
 pub record DrawnId : Type 0 where
   pub key : ℕ
   pub id : ℕ
 
+-- What a draw gave: an id, or none of a spent key.
 abbrev pub drawn_id : ℕ → Drawn → List DrawnId
 drawn_id key (drawn.Id n) = record { key = key; id = n } ∷ []
 drawn_id key drawn.Spent = []
 
+-- The draws among some events.
 abbrev pub draws_in : List Event → List DrawnId
 draws_in [] = []
 draws_in (Stepped s ∷ es) = draws_in es
@@ -77,9 +80,11 @@ abbrev pub steps_after : Table → List Entry → List Step
 steps_after t [] = []
 steps_after t (e ∷ es) = record { entry = e; taken = (step t e.call).taken } ∷ steps_after (step t e.call).after es
 
+-- The steps of a journal from the empty table on.
 abbrev pub steps_of : List Entry → List Step
 steps_of journal = steps_after empty_table journal
 
+-- A replay step as its line sees it.
 abbrev pub judgement_of : ReplayEntry → Judgement
 judgement_of r = record { place = r.place; key = r.key; id = r.id; at = r.at; verdict = r.verdict }
 
@@ -91,10 +96,11 @@ is_at lane line p = (p.lane == lane) && (p.line == line)
 abbrev pub of : List Step → ℕ → ℕ → List Step
 of steps lane line = filter (λ s. is_at lane line s.entry.place) steps
 
--- The replay steps that one line made in one shard, and in all shards, joined in their order.
+-- The replay steps that one line made in one shard, in their order.
 abbrev pub shown : List ReplayEntry → ℕ → ℕ → List Judgement
 shown shard lane line = map judgement_of (filter (λ r. is_at lane line r.place) shard)
 
+-- The replay steps that one line made in all shards, those of each shard in turn.
 abbrev pub shown_in : List (List ReplayEntry) → ℕ → ℕ → List Judgement
 shown_in [] lane line = []
 shown_in (shard ∷ shards) lane line = shown shard lane line ++ shown_in shards lane line
@@ -103,10 +109,11 @@ shown_in (shard ∷ shards) lane line = shown shard lane line ++ shown_in shards
 abbrev pub step_of : Place → ℕ → Act → Reply → List ℕ → Step
 step_of place at a r taken = record { entry = record { place = place; call = record { at = at; act = a }; reply = r }; taken = taken }
 
--- The releases that a line made, in order.
+-- The step that lets a peer or a key go.
 abbrev pub release_of : Place → ℕ → Owed → Step
 release_of place at (owed.Peer p) = step_of place at (act.Released p) (reply.Released p) []
 release_of place at (owed.Key k) = step_of place at (act.KeyReleased k) (reply.KeyReleased k) []
 
+-- The releases that a line made, in order.
 abbrev pub releases : Place → ℕ → List Owed → List Step
 releases place at os = map (release_of place at) os

@@ -17,11 +17,12 @@ peers_in_act (act.Spend peer key) = peer ∷ []
 peers_in_act (act.Released peer) = peer ∷ []
 peers_in_act _ = []
 
--- The peer that an entry made, and the peers that a reply tells of: held, removed or let go.
+-- The peer that an entry made, by the serial of its reply.
 abbrev pub peer_made_by : Act → Reply → List ℕ
 peer_made_by (act.Do (command.PeerNew a)) (reply.Made peer) = peer ∷ []
 peer_made_by _ _ = []
 
+-- The peers that a reply tells of by their serials: held, removed or let go.
 abbrev pub peers_in_reply : Reply → List ℕ
 peers_in_reply (reply.Hold h) = h.peer ∷ []
 peers_in_reply (reply.Removed peers) = peers
@@ -34,36 +35,41 @@ keys_in_act (act.Spend peer key) = key ∷ []
 keys_in_act (act.KeyReleased key) = key ∷ []
 keys_in_act _ = []
 
--- The key that an entry made, and the key that a reply tells of: held or let go.
+-- The key that an entry made, by the serial of its reply.
 abbrev pub key_made_by : Act → Reply → List ℕ
 key_made_by (act.Do (command.KeyNew c)) (reply.Made key) = key ∷ []
 key_made_by _ _ = []
 
+-- The key that a reply tells of by its serial: held or let go.
 abbrev pub keys_in_reply : Reply → List ℕ
 keys_in_reply (reply.Hold h) = h.key ∷ []
 keys_in_reply (reply.KeyReleased key) = key ∷ []
 keys_in_reply _ = []
 
--- All that an entry names by its act and its reply.
+-- All peers that an entry names, by its act and by its reply.
 abbrev pub peers_named : Entry → List ℕ
 peers_named e = peers_in_act e.call.act ++ peer_made_by e.call.act e.reply ++ peers_in_reply e.reply
 
+-- All keys that an entry names, by its act and by its reply.
 abbrev pub keys_named : Entry → List ℕ
 keys_named e = keys_in_act e.call.act ++ key_made_by e.call.act e.reply ++ keys_in_reply e.reply
 
+-- An entry names a peer by its serial.
 abbrev pub NamesPeer : ℕ → Entry → Type 0
 NamesPeer peer e = 0 < times peer (peers_named e)
 
+-- An entry names a key by its serial.
 abbrev pub NamesKey : ℕ → Entry → Type 0
 NamesKey key e = 0 < times key (keys_named e)
 
--- After an entry with an act, no entry of a journal is such.
+-- After an entry with this act, no entry of a journal is such a one.
 abbrev pub NeverAgain : Act → (Entry → Type 0) → List Entry → Type 0
 NeverAgain a IsSuch journal = (i j : ℕ) (e later : Entry) → slice_get journal i ≡ Some e → e.call.act ≡ a → i < j → slice_get journal j ≡ Some later → IsSuch later → ⊥
 
--- After the entry that let a peer go no entry names it; and the same of a key.
+-- After the entry that let a peer go, no entry names it.
 abbrev pub PeersStayReleased : List Entry → Type 0
 PeersStayReleased journal = (peer : ℕ) → NeverAgain (act.Released peer) (NamesPeer peer) journal
 
+-- After the entry that let a key go, no entry names it.
 abbrev pub KeysStayReleased : List Entry → Type 0
 KeysStayReleased journal = (key : ℕ) → NeverAgain (act.KeyReleased key) (NamesKey key) journal

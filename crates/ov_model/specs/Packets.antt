@@ -35,6 +35,7 @@ head_by size opcode bytes =
     data_v2 (number_from 1 3 bytes) (slice_index bytes 0 % 8) (number_from 4 4 bytes))
     else control))
 
+-- What the first bytes of a datagram say it is: by its length and its first byte.
 abbrev pub head_of : List ℕ → HeadKind
 head_of bytes = head_by (length bytes) (slice_index bytes 0 / 8) bytes
 
@@ -57,16 +58,19 @@ datagram id key_id packet_id key tail packet =
     ++ seal_tag key (nonce_of packet_id tail) (head_bytes id key_id packet_id) packet
     ++ seal_text key (nonce_of packet_id tail) (head_bytes id key_id packet_id) packet
 
--- The parts of a received data packet, and the packet id in its head.
+-- The head of a received data packet: its first 8 bytes.
 abbrev pub head_part : List ℕ → List ℕ
 head_part bytes = take 8 bytes
 
+-- The tag of a received data packet: the 16 bytes behind its head.
 abbrev pub tag_part : List ℕ → List ℕ
 tag_part bytes = take 16 (drop 8 bytes)
 
+-- The ciphertext of a received data packet: all that is behind head and tag.
 abbrev pub sealed_part : List ℕ → List ℕ
 sealed_part bytes = drop 24 bytes
 
+-- The packet id in the head of a received data packet: its bytes 4 to 7.
 abbrev pub packet_id_of : List ℕ → ℕ
 packet_id_of bytes = number_from 4 4 bytes
 
@@ -85,6 +89,7 @@ keepalive =
     0x2a ∷ 0x18 ∷ 0x7b ∷ 0xf3 ∷ 0x64 ∷ 0x1e ∷ 0xb4 ∷ 0xcb ∷
     0x07 ∷ 0xed ∷ 0x2d ∷ 0x0a ∷ 0x98 ∷ 0x1f ∷ 0xc7 ∷ 0x48 ∷ []
 
+-- Whether an inner packet is the keepalive message, byte for byte.
 abbrev pub is_ping : List ℕ → Bool
 is_ping packet = bytes_eq packet keepalive
 
@@ -102,6 +107,7 @@ inner_by size version packet =
     (if nat_le 40 size && (version == 6) then v6 (take 16 (drop 8 packet)) (take 16 (drop 24 packet)) else
     not_ip)
 
+-- The addresses of an inner packet, by its length and its first byte.
 abbrev pub inner_of : List ℕ → Inner
 inner_of packet = inner_by (length packet) (slice_index packet 0 / 16) packet
 
@@ -111,11 +117,13 @@ pub data Kind : Type 0 where
   ping : Kind
   no_source : Kind
 
+-- The kind of a packet, by whether it is the keepalive message and by its addresses.
 abbrev pub kind_by : Bool → Inner → Kind
 kind_by true inner = ping
 kind_by false (v4 source destination) = from_source (V4 source)
 kind_by false (v6 source destination) = from_source (V6 source)
 kind_by false not_ip = no_source
 
+-- What a received inner packet counts as.
 abbrev pub kind_of : List ℕ → Kind
 kind_of packet = kind_by (is_ping packet) (inner_of packet)

@@ -21,6 +21,7 @@ abbrev pub next_moment : List Accepted → ℕ → ℕ
 next_moment [] m = m
 next_moment (a ∷ l) m = a.moment
 
+-- Whether a list has a member.
 abbrev pub has_items : List Accepted → Bool
 has_items [] = false
 has_items (a ∷ l) = true

@@ -16,10 +16,11 @@ abbrev pub Follows : Table → List Entry → Type 0
 Follows t [] = Unit {0}
 Follows t (e ∷ es) = May t e.call × ((step t e.call).reply ≡ e.reply) × Follows (step t e.call).after es
 
--- The notes of one step, and of all steps in order, each with its entry's number.
+-- The notes of one step, each with its entry's number.
 abbrev pub numbered : ℕ → List NoteBody → List Note
 numbered n bodies = map (λ b. record { entry = n; body = b }) bodies
 
+-- The notes of all steps in order, each with its entry's number.
 abbrev pub notes_after : ℕ → Table → List Entry → List Note
 notes_after n t [] = []
 notes_after n t (e ∷ es) = numbered n (step t e.call).notes ++ notes_after (n + 1) (step t e.call).after es
@@ -28,9 +29,10 @@ notes_after n t (e ∷ es) = numbered n (step t e.call).notes ++ notes_after (n 
 abbrev pub IsRun : List Entry → Type 0
 IsRun journal = Follows empty_table journal
 
--- The last table of a run, and its notes.
+-- The last table of a run.
 abbrev pub last_table : List Entry → Table
 last_table journal = table_after empty_table journal
 
+-- The notes of a run.
 abbrev pub notes_of : List Entry → List Note
 notes_of journal = notes_after 0 empty_table journal

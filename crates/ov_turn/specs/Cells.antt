@@ -35,9 +35,11 @@ module _ {S I : Type 0} where
   abbrev pub on_cell : Turn S I → ℕ → ℕ → Step S
   on_cell turn cell k = step turn.table.shared.table_id.slots (3 + cell) k 0 none
 
+  -- the step told this of the seat inside that added to the cell's word
   abbrev pub added : Told S I → Inside S I → ℕ → ℕ → ℕ → Inside S I → Type 0
   added then old cell k n new = then (on_cell old.turn.now cell k) old.seat.me n new.seat.me
 
+  -- the step told this of the seat inside that subtracted from the cell's word
   abbrev pub subtracted : Told S I → Inside S I → ℕ → ℕ → ℕ → Inside S I → Type 0
   subtracted then old cell k n new = then (on_cell old.turn.now cell k) old.seat.me n new.seat.me
 
@@ -55,5 +57,6 @@ module _ {S I : Type 0} {K : Ghosts S I} where
   abbrev pub MayReturn : (S → List I) → (S → List ℕ) → (S → List ℕ) → Told S I → Turn S I → TurnSeat S I K → ℕ → ℕ → Type 0
   MayReturn history live dying then turn seat cell k = Allows (IsTurned history live dying turn.table.shared.key) turn.table.shared.table_id.slots seat.seat.id seat.seat.me (3 + cell) (λ n. (n + (2 ^ 64 - k)) % 2 ^ 64) (stays_outside then (on_cell turn cell k) seat.seat.me)
 
+  -- the step told this of the seat outside that subtracted from the cell's word
   abbrev pub returned : Told S I → Turn S I → TurnSeat S I K → ℕ → ℕ → ℕ → TurnSeat S I K → Type 0
   returned then turn old cell k n new = then (on_cell turn cell k) old.seat.me n new.seat.me

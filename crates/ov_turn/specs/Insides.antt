@@ -8,9 +8,11 @@ use Rattle.ov_turn.specs.declared.inside.Inside.{Inside}
 use Rattle.ov_turn.specs.Slots.{kept_in}
 
 module _ {S I : Type 0} where
+  -- the seat is inside this lock
   abbrev pub IsIn : Turn S I → Inside S I → Type 0
   IsIn turn it = it.seat.table_id ≡ turn.table.shared.table_id
 
+  -- the seat's part of the 4294967296 shares
   abbrev pub share_in : Inside S I → ℕ
   share_in it = it.seat.me.0.share
 
@@ -18,12 +20,15 @@ module _ {S I : Type 0} where
   abbrev pub seen_in : Inside S I → List I
   seen_in it = it.seat.me.0.seen
 
+  -- its own entries, each with its position in the history
   abbrev pub own_in : Inside S I → List (ℕ × I)
   own_in it = it.seat.me.0.own
 
+  -- the cells that it holds
   abbrev pub holds_in : Inside S I → List ℕ
   holds_in it = it.seat.me.0.holds
 
+  -- the cells whose release it owes
   abbrev pub owes_in : Inside S I → List ℕ
   owes_in it = it.seat.me.0.owes
 
@@ -31,12 +36,15 @@ module _ {S I : Type 0} where
   abbrev pub live_in : Inside S I → List ℕ
   live_in it = it.seat.me.0.live
 
+  -- the cells that were dying at the last append, or at enter where there was none
   abbrev pub dying_in : Inside S I → List ℕ
   dying_in it = it.seat.me.0.dying
 
+  -- the cells that are left to link
   abbrev pub to_link_in : Inside S I → List ℕ
   to_link_in it = it.seat.me.0.to_link
 
+  -- the cells that are left to unlink
   abbrev pub to_unlink_in : Inside S I → List ℕ
   to_unlink_in it = it.seat.me.0.to_unlink
 

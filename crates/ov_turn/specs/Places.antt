@@ -12,6 +12,7 @@ pub record Lists : Type 0 where
   pub to_unlink : List ℕ
 
 module _ {I : Type 0} where
+  -- the seat's share
   abbrev pub share : Place I → ℕ
   share v = v.share
 
@@ -39,6 +40,7 @@ module _ {I : Type 0} where
   abbrev pub owes : ℕ → Place I → ℕ
   owes c v = count_of c v.owes
 
+  -- the lists of cells that the seat knows
   abbrev pub lists_of : Place I → Lists
   lists_of v = record { live = v.live; dying = v.dying; to_link = v.to_link; to_unlink = v.to_unlink }
 

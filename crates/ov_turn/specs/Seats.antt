@@ -10,6 +10,7 @@ module _ {S I : Type 0} where
   cells_of turn = turn.table.shared.key
 
 module _ {S I : Type 0} {K : Ghosts S I} where
+  -- the seat is one of this lock's
   abbrev pub IsSeatOf : Turn S I → TurnSeat S I K → Type 0
   IsSeatOf turn seat = seat.seat.table_id ≡ turn.table.shared.table_id
 

@@ -36,23 +36,28 @@ module _ {I : Type 0} where
   abbrev pub holding : Place I → List ℕ → List ℕ → List ℕ → List ℕ → Place I
   holding v held owed to_link to_unlink = record v { holds = held; owes = owed; to_link = to_link; to_unlink = to_unlink }
 
-  -- split and join
+  -- the seat after a split
   abbrev pub first_part : Place I → Place I
   first_part v = record v { share = v.share - 1 }
 
+  -- the new seat of a split
   abbrev pub second_part : Place I → Place I
   second_part v = blank v.cells 1 v.seen
 
+  -- the seat after a join: it has what both had
   abbrev pub both_parts : Place I → Place I → Place I
   both_parts v w = record v { share = v.share + w.share; also = w.seen; own = v.own ++ w.own; holds = v.holds ++ w.holds; owes = v.owes ++ w.owes }
 
+  -- the seat that was joined into another
   abbrev pub no_part : Place I
   no_part = blank 0 0 []
 
 module _ {S I : Type 0} where
+  -- the seat has drawn its ticket
   abbrev pub queues : Step S → Me S (Place I) → ℕ → Me S (Place I) → Type 0
   queues st m n w = (t : ℕ) × (n ≡ t % 2 ^ 64) × (w ≡ (in_line m.0 t, m.1))
 
+  -- the seat is outside, and the slot has the kept value again
   abbrev pub leaves : Step S → Me S (Place I) → ℕ → Me S (Place I) → Type 0
   leaves st m n w = w ≡ (outside m.0, rest m.1)
 
@@ -75,6 +80,7 @@ module _ {S I : Type 0} (history : S → List I) (live dying : S → List ℕ) w
       × ((c : ℕ) → 0 < count_of c m.0.owes → has c (dying y) ≡ 1)
       × (lists_fit w.0 ≡ true)
 
+  -- the seat has the kept value, where the ticket that is served is its own
   abbrev pub enters : Step S → Me S (Place I) → ℕ → Me S (Place I) → Type 0
   enters st m n w = (n ≡ m.0.ticket % 2 ^ 64 → (y : S) × Enters m w y) × (n ≢ m.0.ticket % 2 ^ 64 → w ≡ m)
 
