@@ -1,13 +1,13 @@
 -- The round keys as they are kept.
-use Rattle.std.proofs.Common.{◌≡◌, ℕ, zero, suc, ◌+◌, ◌*◌, ◌/◌, ◌%◌, ◌<◌, ◌≤◌, ◌≢◌, true, false, cond, eqb, List, [], ◌∷◌, ◌++◌, length, map, get_or, replicate, bit_xor, refl, sym, ap, ap₂, ◌∙◌, arith, subst, zero-add, ◌-◌, ⊎_elim}
+use Rattle.std.proofs.Common.{◌≡◌, ℕ, zero, suc, ◌+◌, ◌*◌, ◌/◌, ◌%◌, ◌<◌, ◌≤◌, ◌≢◌, List, [], ◌∷◌, ◌++◌, length, map, get_or, replicate, bit_xor, refl, sym, ap, ◌∙◌, arith, subst, zero-add, ◌-◌, ⊎_elim}
 use Rattle.std.specs.List.{range_with_len}
-use Rattle.std.specs.Int.{w32, to_be_bytes, bytes_high_first, byte_at}
+use Rattle.std.specs.Int.{w32, to_be_bytes, bytes_high_first}
 use Rattle.std.proofs.lemmas.Bool.{lt-ltb, le-ltb, ne_eqb, cases_lt}
 use Rattle.std.proofs.lemmas.List.{length-map, get_or-map}
 use Rattle.std.proofs.lemmas.Grind.{same_number_lists}
 use Rattle.std.proofs.lemmas.List.FromFn.{get_or-map-range_with_len, fill_by_all}
 use Rattle.std.proofs.lemmas.Simd.{map-map, zip2_splat}
-use lib.Lanes.{Each1, zip2}
+use lib.Lanes.{Each1}
 use Rattle.ov_aes.specs.Field.{plus}
 use Rattle.ov_aes.specs.Cipher.{round_key}
 use Rattle.ov_aes.specs.KeySchedule.{word}

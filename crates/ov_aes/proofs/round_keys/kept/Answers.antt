@@ -1,4 +1,4 @@
-use Rattle.std.proofs.Common.{◌≡◌, ℕ, ◌≤◌, sym, ◌∙◌, arith}
+use Rattle.std.proofs.Common.{sym, ◌∙◌, arith}
 use Rattle.ov_aes.proofs.KeptFacts.{kept_first, kept_middle, kept_last}
 use Rattle.ov_aes.proofs.round_keys.kept.Goals as goal
 use Rattle.ov_aes.proofs.round_keys.kept.Goals.{then-r-eq0, else-r-eq0, then-r-rounds, else-r-rounds}

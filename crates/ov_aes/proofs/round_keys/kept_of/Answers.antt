@@ -1,4 +1,4 @@
-use Rattle.std.proofs.Common.{ℕ, ◌≡◌, ◌+◌, ◌*◌, ◌<◌, List, length, get_or, map, refl, sym, ap, ◌∙◌, arith, rules}
+use Rattle.std.proofs.Common.{ℕ, ◌≡◌, List, length, get_or, refl, ap, ◌∙◌, arith, rules}
 use Rattle.ov_aes.proofs.KeptFacts.{four-words, put-more, kept-are}
 use Rattle.ov_aes.proofs.round_keys.kept_of.Goals as goal
 

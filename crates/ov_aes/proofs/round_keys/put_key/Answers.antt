@@ -1,4 +1,4 @@
-use Rattle.std.proofs.Common.{ℕ, ◌≡◌, ◌≢◌, ◌+◌, ◌*◌, ◌<◌, length, get_or, refl, ◌∙◌, arith, rules, below_more, get_or-set_same, get_or-set_other}
+use Rattle.std.proofs.Common.{ℕ, ◌≡◌, ◌≢◌, ◌+◌, ◌*◌, length, get_or, refl, ◌∙◌, arith, rules, below_more, get_or-set_same, get_or-set_other}
 use Rattle.ov_aes.proofs.round_keys.put_key.Goals as goal
 
 pub loop-m-init : goal.loop-m-init

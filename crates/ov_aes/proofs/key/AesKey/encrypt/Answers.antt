@@ -1,9 +1,8 @@
-use Rattle.std.proofs.Common.{◌≡◌, ℕ, ◌+◌, ◌/◌, List, length, arith, sym, ap, subst, ◌∙◌}
+use Rattle.std.proofs.Common.{ℕ, List, sym, ap, subst, ◌∙◌}
 use Rattle.ov_aes.specs.Aes.{key_list}
 use Rattle.ov_aes.specs.KeySchedule.{key_schedule}
 use Rattle.ov_aes.specs.Cipher.{aes, cipher}
 use Rattle.ov_aes.specs.RoundKeys.{HasKeys}
-use Rattle.ov_aes.proofs.Schedules.{key_length}
 use Rattle.ov_aes.proofs.key.AesKey.encrypt.Goals as goal
 
 pub returns : goal.returns

@@ -1,5 +1,5 @@
-use Rattle.std.proofs.Common.{◌≡◌, ℕ, ◌+◌, ◌*◌, ◌/◌, ◌≤◌, List, length, arith, sym, ap, subst, ◌∙◌}
-use Rattle.ov_aes.specs.Aes.{key_list, IsKeyLength}
+use Rattle.std.proofs.Common.{ℕ, ◌+◌, ◌/◌, List, length, arith, sym, ap, subst, ◌∙◌}
+use Rattle.ov_aes.specs.Aes.{IsKeyLength}
 use Rattle.ov_aes.specs.KeySchedule.{key_schedule}
 use Rattle.ov_aes.specs.RoundKeys.{kept_keys, keys_of, HasKeys}
 use Rattle.ov_aes.specs.Words.{words_of}
