@@ -6,3 +6,4 @@ pub mod Vectors
 pub mod Lengths
 pub mod NibbleFacts
 pub mod RoundFacts
+pub mod KeptFacts

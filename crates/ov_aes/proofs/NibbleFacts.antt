@@ -1,16 +1,15 @@
 -- Vectors of bytes, lane by lane.
-use Rattle.std.proofs.Common.{◌≡◌, ℕ, zero, suc, ◌+◌, ◌*◌, ◌/◌, ◌%◌, ◌^◌, ◌<◌, ◌≤◌, Bool, true, List, [], ◌∷◌, length, map, get_or, bit_and, bit_xor, refl, sym, ap, ap₂, ◌∙◌, arith, subst, ◌||◌, cond, Fits, w8}
+use Rattle.std.proofs.Common.{◌≡◌, ℕ, suc, ◌+◌, ◌*◌, ◌/◌, ◌<◌, ◌≤◌, true, List, [], ◌∷◌, length, map, get_or, bit_and, bit_xor, refl, sym, ap, ap₂, ◌∙◌, arith, subst, ◌||◌, cond, Fits, w8}
 use Rattle.std.specs.Int.Bits.{xor_assoc}
 use Rattle.std.specs.List.{range_with_len}
 use Rattle.std.proofs.lemmas.List.{length-map}
-use Rattle.std.proofs.lemmas.Nat.{and_mask, xor_comm, xor_lt, xor_mod, xor_shr}
+use Rattle.std.proofs.lemmas.Nat.{and_mask, xor_comm, xor_mod, xor_shr}
 use Rattle.std.proofs.lemmas.Simd.{SwzOk-from_Each1, swz_l, SwzOk, map-map, zip2_of_maps, below_from_Fits}
 use lib.Dec.{T, leb, ltb}
 use lib.Lanes.{Each1, zip2}
 use mir.Val.{zeroes}
 use Rattle.ov_aes.specs.declared.nibbles.TheConstants.{INVERSES, SCALED, INNER_LOW, INNER_HIGH}
-use Rattle.ov_aes.specs.Field.{plus}
-use Rattle.ov_aes.specs.Nibbles.{AreBytes, entry, inner, first_place, second_place, nibble_sum}
+use Rattle.ov_aes.specs.Nibbles.{AreBytes, entry, inner, first_place, second_place}
 use Rattle.ov_aes.proofs.TableFacts.{agree, low-pair, high-pair}
 
 -- ---- look-ups

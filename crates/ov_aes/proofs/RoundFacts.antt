@@ -1,11 +1,11 @@
 -- A round on a vector of the state's 16 bytes in the inner form, against the round of the standard.
-use Rattle.std.proofs.Common.{◌≡◌, ℕ, zero, suc, ◌<◌, List, [], ◌∷◌, ◌++◌, length, map, get_or, replicate, bit_xor, refl, sym, ap, ap₂, ◌∙◌, arith, subst}
+use Rattle.std.proofs.Common.{◌≡◌, ℕ, zero, suc, ◌<◌, List, [], ◌∷◌, ◌++◌, length, map, get_or, replicate, bit_xor, refl, sym, ap, ◌∙◌, arith, subst}
 use Rattle.std.specs.List.{range_with_len}
-use Rattle.std.specs.Int.Bits.{xor_assoc, xor_self, xor_zero_r}
+use Rattle.std.specs.Int.Bits.{xor_assoc, xor_zero_r}
 use Rattle.std.proofs.lemmas.List.{length-map}
 use Rattle.std.proofs.lemmas.List.FromFn.{fill_by_all}
 use Rattle.std.proofs.lemmas.Nat.{xor_comm, xor_lt}
-use Rattle.std.proofs.lemmas.Simd.{map-map, zip2_splat, zip2_of_maps, length-zip2}
+use Rattle.std.proofs.lemmas.Simd.{map-map, zip2_splat, length-zip2}
 use lib.Lanes.{Each1, zip2, pick_l}
 use Rattle.ov_aes.specs.declared.nibbles.TheConstants.{ONCE_FIRST, ONCE_SECOND, TWICE_FIRST, TWICE_SECOND, LAST_FIRST, LAST_SECOND}
 use Rattle.ov_aes.specs.declared.cipher.TheConstants.{SHIFTED, ONE_BELOW, TWO_BELOW, THREE_BELOW}

@@ -1,11 +1,11 @@
 -- Tables hold what the standard says, by computing each entry.
-use Rattle.std.proofs.Common.{◌≡◌, ℕ, ◌<◌, Bool, true, List, [], ◌∷◌, map, get_or, bit_and, bit_xor, refl, sym, ◌∙◌, ap, zero-add, ◌||◌, ◌/◌}
+use Rattle.std.proofs.Common.{◌≡◌, ℕ, ◌<◌, true, List, [], ◌∷◌, map, get_or, bit_and, bit_xor, refl, sym, ◌∙◌, ap, zero-add, ◌/◌}
 use Rattle.std.specs.List.{range_with_len}
 use Rattle.std.proofs.lemmas.Bool.{ltb-true}
 use Rattle.std.proofs.lemmas.List.FromFn.{get_or-map-range_with_len}
-use lib.Dec.{leb, ltb}
+use lib.Dec.{ltb}
 use Rattle.ov_aes.specs.declared.powers.TheConstants.{POWERS}
-use Rattle.ov_aes.specs.declared.nibbles.TheConstants.{INVERSES, SCALED, INNER_LOW, INNER_HIGH, ONCE_FIRST, ONCE_SECOND, TWICE_FIRST, TWICE_SECOND, LAST_FIRST, LAST_SECOND}
+use Rattle.ov_aes.specs.declared.nibbles.TheConstants.{INNER_LOW, INNER_HIGH, ONCE_FIRST, ONCE_SECOND, TWICE_FIRST, TWICE_SECOND, LAST_FIRST, LAST_SECOND}
 use Rattle.ov_aes.specs.Field.{product, remainder, times, inverse, power_of_x}
 use Rattle.ov_aes.specs.SBox.{affine_bit, affine, sub_byte}
 use Rattle.ov_aes.specs.Nibbles.{entry, inner, first_place, second_place, nibble_sum}

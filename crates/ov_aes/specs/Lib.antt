@@ -5,3 +5,4 @@ pub mod Cipher
 pub mod Aes
 pub mod Words
 pub mod Nibbles
+pub mod RoundKeys

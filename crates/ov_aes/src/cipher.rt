@@ -1,19 +1,17 @@
 // The rounds of the cipher (FIPS 197, 5.1) on a vector of the state's 16 bytes.
 
 ghost use Rattle.std.specs.Prelude.{◌≡◌, ℕ, ◌+◌, ◌-◌, ◌*◌, ◌<◌, ◌≤◌, List, [], ◌∷◌, map, replicate};
-ghost use Rattle.std.specs.Int.{to_be_bytes, w32};
 ghost use Rattle.ov_aes.specs.Field.{plus};
 ghost use Rattle.ov_aes.specs.SBox.{sub_bytes};
 ghost use Rattle.ov_aes.specs.Nibbles.{AreBytes, inner};
-ghost use Rattle.ov_aes.specs.Cipher.{cipher, mix_columns, round_key, shift_rows};
-ghost use Rattle.ov_aes.specs.Words.{Begins, bytes_of};
+ghost use Rattle.ov_aes.specs.Cipher.{cipher, mix_columns, shift_rows};
+ghost use Rattle.ov_aes.specs.RoundKeys.{HasKeys};
 
-use crate::key_schedule::WORDS;
 use crate::nibbles::{
     LAST_FIRST, LAST_SECOND, ONCE_FIRST, ONCE_SECOND, TWICE_FIRST, TWICE_SECOND, inner_form,
     places, summed,
 };
-use crate::words::{byte0, byte1, byte2, byte3};
+use crate::round_keys::{KEYS, kept_at};
 use std::simd::prelude::*;
 
 /// Where ShiftRows takes the bytes of the state from (5.1.2).
@@ -58,44 +56,6 @@ fn last_round(state: u8x16, key: u8x16) -> u8x16
     summed(LAST_FIRST, LAST_SECOND, places(state)).swizzle(SHIFTED) ^ key
 }
 
-/// The four words of round key `r`.
-fn key_at(words: &[u32; WORDS], r: usize) -> [u32; 4]
-    requires { r < 15 }
-    ensures { (w : List (List ℕ)) → Begins words.now w (4 * r + 4) → bytes_of result ≡ round_key w r }
-{
-    [
-        words[4 * r],
-        words[4 * r + 1],
-        words[4 * r + 2],
-        words[4 * r + 3],
-    ]
-}
-
-/// The bytes of a state.
-fn block_of(s: [u32; 4]) -> [u8; 16]
-    ensures { result ≡ bytes_of s }
-{
-    let [a, b, c, d] = s;
-    [
-        byte0(a),
-        byte1(a),
-        byte2(a),
-        byte3(a),
-        byte0(b),
-        byte1(b),
-        byte2(b),
-        byte3(b),
-        byte0(c),
-        byte1(c),
-        byte2(c),
-        byte3(c),
-        byte0(d),
-        byte1(d),
-        byte2(d),
-        byte3(d),
-    ]
-}
-
 /// Bytes as a vector.
 #[inline(always)]
 fn vector_of(bytes: [u8; 16]) -> u8x16
@@ -105,27 +65,15 @@ fn vector_of(bytes: [u8; 16]) -> u8x16
     u8x16::from_array(bytes)
 }
 
-/// Round key `r`.
-#[inline(always)]
-fn round_key_at(words: &[u32; WORDS], r: usize) -> u8x16
-    requires { r < 15 }
-    ensures key { (w : List (List ℕ)) → Begins words.now w (4 * r + 4) → result ≡ round_key w r }
-    ensures bytes { AreBytes result }
-{
-    vector_of(block_of(key_at(words, r)))
-}
-
-/// The cipher of `rounds` rounds on a block, with the words of a key schedule.
-pub fn encrypted(words: &[u32; WORDS], rounds: usize, block: [u8; 16]) -> [u8; 16]
+/// The cipher of `rounds` rounds on a block, with the round keys as they are kept.
+pub fn encrypted(keys: &[u8; KEYS], rounds: usize, block: [u8; 16]) -> [u8; 16]
     requires { (1 ≤ rounds) × (rounds < 15) }
-    ensures { (w : List (List ℕ)) → Begins words.now w (4 * rounds + 4) → result ≡ cipher w rounds block }
+    ensures { (w : List (List ℕ)) → HasKeys keys.now w rounds → result ≡ cipher w rounds block }
 {
-    let mut state = inner_form(vector_of(block) ^ round_key_at(words, 0));
+    let mut state = inner_form(vector_of(block) ^ kept_at(keys, 0));
     for r in 1..rounds {
-        let key = inner_form(round_key_at(words, r) ^ u8x16::splat(0x63));
-        let next = round(state, key);
+        let next = round(state, kept_at(keys, r));
         state = next;
     }
-    let key = round_key_at(words, rounds) ^ u8x16::splat(0x63);
-    last_round(state, key).to_array()
+    last_round(state, kept_at(keys, rounds)).to_array()
 }

@@ -6,7 +6,8 @@ ghost use Rattle.ov_aes.specs.Cipher.{aes};
 
 use crate::cipher::encrypted;
 use crate::key_bytes::{KeyBytes, KeyLength};
-use crate::key_schedule::{WORDS, expand};
+use crate::key_schedule::expand;
+use crate::round_keys::{KEYS, kept_of};
 use std::fmt;
 use std::marker::Model;
 
@@ -14,7 +15,8 @@ use std::marker::Model;
 #[derive(Clone, Copy)]
 pub struct AesKey {
     key: KeyBytes,
-    words: [u32; WORDS],
+    // The round keys, as the rounds want them.
+    keys: [u8; KEYS],
     rounds: usize,
 }
 
@@ -26,18 +28,18 @@ impl Model for AesKey {
     ghost use Rattle.std.specs.Prelude.{◌≡◌, ◌+◌, ◌/◌, length};
     ghost use Rattle.ov_aes.specs.Aes.{IsKeyLength, key_list};
     ghost use Rattle.ov_aes.specs.KeySchedule.{key_schedule};
-    ghost use Rattle.ov_aes.specs.Words.{Begins, words_of};
+    ghost use Rattle.ov_aes.specs.RoundKeys.{HasKeys, keys_of};
 
     ghost view = { λ a. a.key };
 
-    ghost invariant = { λ a. (words_of (key_list a.key) ≡ a.words)
-        × Begins a.words (key_schedule (key_list a.key)) (length (key_list a.key) + 28)
+    ghost invariant = { λ a. (keys_of (key_list a.key) ≡ a.keys)
+        × HasKeys a.keys (key_schedule (key_list a.key)) (length (key_list a.key) / 4 + 6)
         × (length (key_list a.key) / 4 + 6 ≡ a.rounds)
         × IsKeyLength (length (key_list a.key)) };
 
-    ghost inverse = { λ k. record { key = k; words = words_of (key_list k); rounds = length (key_list k) / 4 + 6 } };
+    ghost inverse = { λ k. record { key = k; keys = keys_of (key_list k); rounds = length (key_list k) / 4 + 6 } };
 
-    ghost inverse_ok = { λ a h. λ i. record { key = a.key; words = h.0 i; rounds = h.2 i } };
+    ghost inverse_ok = { λ a h. λ i. record { key = a.key; keys = h.0 i; rounds = h.2 i } };
 }
 
 /// The key prints as its kind and its length, with no byte of it and no round key.
@@ -54,11 +56,9 @@ impl AesKey {
         ensures { result ≡ key }
     {
         let bytes = key.bytes();
-        AesKey {
-            key,
-            words: expand(bytes),
-            rounds: bytes.len() / 4 + 6,
-        }
+        let rounds = bytes.len() / 4 + 6;
+        let keys = kept_of(&expand(bytes), rounds);
+        AesKey { key, keys, rounds }
     }
 
     /// The key of these bytes, ready for use. `KeyLength` comes exactly where there are not 16, 24
@@ -75,6 +75,6 @@ impl AesKey {
     pub fn encrypt(&self, block: [u8; 16]) -> [u8; 16]
         ensures { result ≡ aes (key_list self.now) block }
     {
-        encrypted(&self.words, self.rounds, block)
+        encrypted(&self.keys, self.rounds, block)
     }
 }

@@ -8,6 +8,7 @@ mod key_schedule;
 pub mod laws;
 mod nibbles;
 mod powers;
+mod round_keys;
 #[cfg(test)]
 mod tests;
 mod words;

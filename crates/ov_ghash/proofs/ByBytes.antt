@@ -1,14 +1,13 @@
 -- Sums over the bytes of a block, by Horner's rule from the lowest byte on.
-use Rattle.std.proofs.Common.{◌≡◌, ℕ, zero, suc, ◌+◌, ◌-◌, ◌*◌, ◌/◌, ◌%◌, ◌^◌, ◌<◌, ◌≤◌, List, length, get_or, bit_xor, refl, sym, ap, ap₂, ◌∙◌, arith, zero-add, add-one, suc-add, add_comm, subst}
-use Rattle.std.specs.Int.{w128, byte_at, from_be_bytes}
-use Rattle.std.specs.Int.Bits.{xor_assoc, xor_zero_r, xor_shifted}
+use Rattle.std.proofs.Common.{◌≡◌, ℕ, zero, suc, ◌+◌, ◌*◌, ◌/◌, ◌%◌, ◌^◌, ◌<◌, bit_xor, refl, sym, ap, ap₂, ◌∙◌, arith, zero-add, add-one, suc-add, add_comm}
+use Rattle.std.specs.Int.{byte_at}
+use Rattle.std.specs.Int.Bits.{xor_assoc, xor_zero_r}
 use Rattle.std.proofs.Math.Nat.{pow-suc}
 use Rattle.std.proofs.lemmas.Nat.{xor_comm, pow-add}
-use Rattle.ov_ghash.specs.Block.{bits, number_of}
+use Rattle.ov_ghash.specs.Block.{bits}
 use Rattle.ov_ghash.specs.Turn.{turn, turns, horner}
-use Rattle.ov_ghash.proofs.Turning.{xor_pairs, turns-xor, turns-shift, turns_split, horner-zero, horner-xor, horner-turns, horner-horner, horner-lt}
+use Rattle.ov_ghash.proofs.Turning.{xor_pairs, turns-xor, turns_split, horner-zero, horner-xor, horner-turns, horner-horner}
 use Rattle.ov_ghash.proofs.BitLists.{horner-bits, horner-bits-more}
-use Rattle.ov_ghash.proofs.Field.{horner_comm}
 use Rattle.ov_ghash.proofs.Tables.{horner-byte-more}
 
 -- v (n - 1) + v (n - 2) x^8 + .. + v 0 x^(8 (n - 1))

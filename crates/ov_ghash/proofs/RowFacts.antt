@@ -3,7 +3,7 @@ use Rattle.std.proofs.Common.{◌≡◌, ℕ, zero, suc, ◌+◌, ◌-◌, ◌*�
 use Rattle.std.specs.Int.{w128, byte_at, bytes_low_first, bytes_high_first, to_le_bytes, to_be_bytes}
 use Rattle.std.specs.Int.Bits.{xor_assoc, xor_zero_l, xor_zero_r, xor_shifted}
 use Rattle.std.proofs.Math.Nat.{mul-le-mul_left}
-use Rattle.std.proofs.lemmas.Nat.{xor_comm, xor_shr, xor_mod, xor_lt, xor_block, pow-add, shl_below}
+use Rattle.std.proofs.lemmas.Nat.{xor_shr, xor_mod, xor_lt, xor_block, pow-add, shl_below}
 use Rattle.std.proofs.lemmas.List.FromFn.{get_or-map-range_with_len, fill_by_all}
 use Rattle.std.proofs.lemmas.Simd.{get_or-zip2, length-zip2, get_or-replicate, Each1-from_get_or}
 use lib.Lanes.{zip2, Each1}
@@ -11,13 +11,13 @@ use Rattle.std.specs.List.{range_with_len}
 use Rattle.std.proofs.lemmas.List.{get_or-append_right, get_or_past}
 use Rattle.std.proofs.lemmas.Bool.{cases_lt}
 use Rattle.ov_ghash.specs.Block.{bits, number_of}
-use Rattle.ov_ghash.specs.Turn.{turn, turns, horner}
+use Rattle.ov_ghash.specs.Turn.{turns, horner}
 use Rattle.ov_ghash.specs.Rows.{rows}
-use Rattle.ov_ghash.proofs.Turning.{xor_pairs, turns-xor, turns-shift, horner-lt}
+use Rattle.ov_ghash.proofs.Turning.{turns-xor, turns-shift, horner-lt}
 use Rattle.ov_ghash.proofs.BitLists.{split_times}
 use Rattle.ov_ghash.proofs.Field.{horner_comm}
 use Rattle.ov_ghash.proofs.Tables.{horner-byte}
-use Rattle.ov_ghash.proofs.ByBytes.{by_bytes, by_bytes-agree, by_bytes-xor, by_bytes-horner, by_bytes-first, by_bytes_swap, by_its_bytes, byte-product, byte_at-is, pow_256, turns-turns, turns_swap}
+use Rattle.ov_ghash.proofs.ByBytes.{by_bytes, by_bytes-agree, by_bytes-xor, by_bytes-horner, by_bytes-first, by_bytes_swap, by_its_bytes, byte-product, byte_at-is, turns-turns, turns_swap}
 
 -- ---- a vector as a number
 

@@ -1,10 +1,9 @@
 -- Products by table: four bits of a block at a time, and eight.
-use Rattle.std.proofs.Common.{◌≡◌, ℕ, zero, suc, ◌+◌, ◌-◌, ◌*◌, ◌/◌, ◌%◌, ◌^◌, ◌<◌, List, map, length, get_or, bit_xor, refl, sym, ap, ap₂, ◌∙◌, arith, zero-add, subst, ⊎_elim}
+use Rattle.std.proofs.Common.{◌≡◌, ℕ, zero, suc, ◌+◌, ◌-◌, ◌/◌, ◌%◌, ◌^◌, ◌<◌, List, length, get_or, bit_xor, sym, ap, ap₂, ◌∙◌, arith, zero-add, subst, ⊎_elim}
 use Rattle.std.proofs.Math.Nat.{one-mul}
 use Rattle.std.proofs.lemmas.Bool.{cases_lt}
 use Rattle.std.proofs.lemmas.Nat.{xor_comm}
 use Rattle.std.proofs.lemmas.List.FromFn.{get_or-map-range_with_len, fill_by_all}
-use Rattle.std.specs.List.{range_with_len}
 use Rattle.std.specs.Int.Bits.{xor_shifted, xor_zero_r}
 use Rattle.ov_ghash.specs.Block.{bits}
 use Rattle.ov_ghash.specs.Turn.{turn, turns, part, horner, products}

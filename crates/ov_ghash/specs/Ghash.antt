@@ -1,5 +1,5 @@
 -- What a contract sees of a `HashKey`, which is of a subkey, and of a `Ghash`, which holds blocks too.
-use Rattle.std.specs.Prelude.{◌≡◌, ℕ, ◌<◌, ◌^◌, List, [], replicate}
+use Rattle.std.specs.Prelude.{◌≡◌, ℕ, ◌<◌, ◌^◌, List, replicate}
 use Rattle.ov_ghash.specs.Block.{number_of, ghash}
 use Rattle.ov_ghash.specs.Rows.{rows}
 use Rattle.ov_ghash.specs.Turn.{turns}

@@ -1,9 +1,9 @@
 -- The products of half bytes in rows.
-use Rattle.std.specs.Prelude.{ℕ, zero, suc, ◌/◌, ◌%◌, List, map, bit_xor}
+use Rattle.std.specs.Prelude.{ℕ, ◌/◌, ◌%◌, List, map}
 use Rattle.std.specs.Int.{byte_at}
 use Rattle.std.specs.List.{range_with_len}
 use Rattle.ov_ghash.specs.Block.{bits}
-use Rattle.ov_ghash.specs.Turn.{turns, horner}
+use Rattle.ov_ghash.specs.Turn.{horner}
 
 -- the bytes of the products of a block with the 16 polynomials of degree below 4: byte i of product n,
 -- counted from the lowest byte, at place 16 i + n

@@ -1,4 +1,4 @@
-use Rattle.std.proofs.Common.{ℕ, List, [], ◌∷◌, get_or, ◌∙◌}
+use Rattle.std.proofs.Common.{[], ◌∷◌, get_or, ◌∙◌}
 use Rattle.ov_aes.specs.SBox.{sub_byte, sub_bytes}
 use Rattle.ov_aes.proofs.key_schedule.sub_word.Goals as goal
 

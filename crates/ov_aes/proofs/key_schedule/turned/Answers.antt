@@ -1,4 +1,4 @@
-use Rattle.std.proofs.Common.{ℕ, List, [], ◌∷◌, ◌∙◌}
+use Rattle.std.proofs.Common.{[], ◌∷◌, ◌∙◌}
 use Rattle.ov_aes.specs.Field.{plus}
 use Rattle.ov_aes.specs.SBox.{sub_bytes}
 use Rattle.ov_aes.specs.KeySchedule.{round_constant}

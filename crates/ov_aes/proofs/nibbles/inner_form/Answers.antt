@@ -1,4 +1,4 @@
-use Rattle.std.proofs.Common.{ℕ, List, bit_xor, sym, subst}
+use Rattle.std.proofs.Common.{bit_xor, sym, subst}
 use Rattle.std.proofs.lemmas.Simd.{SwzOk, zip2_of_maps}
 use mir.Syntax.{w8}
 use Rattle.ov_aes.specs.declared.nibbles.TheConstants.{INNER_LOW, INNER_HIGH}

@@ -1,4 +1,4 @@
-use Rattle.std.proofs.Common.{ℕ, List, sym, subst}
+use Rattle.std.proofs.Common.{sym, subst}
 use Rattle.std.proofs.lemmas.Simd.{SwzOk}
 use mir.Syntax.{w8}
 use Rattle.ov_aes.proofs.NibbleFacts.{bytes-of, both-is, of_high-is, of_both-is, first-is, second-is, high_ok, low_ok, both_ok, of_high_ok, of_both_ok, first_ok, second_ok}

@@ -1,9 +1,5 @@
-use Rattle.std.proofs.Common.{ℕ, List, length, map, bit_xor, ap, ◌∙◌}
-use Rattle.std.proofs.lemmas.Simd.{zip2_splat}
-use Rattle.ov_aes.specs.SBox.{sub_byte, sub_bytes}
-use Rattle.ov_aes.specs.Nibbles.{inner}
 use Rattle.ov_aes.proofs.NibbleFacts.{bytes-of}
-use Rattle.ov_aes.proofs.RoundFacts.{last, last-bytes}
+use Rattle.ov_aes.proofs.RoundFacts.{last-bytes}
 use Rattle.ov_aes.proofs.nibbles.substituted.Goals as goal
 
 pub returns : goal.returns

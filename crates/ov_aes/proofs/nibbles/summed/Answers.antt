@@ -1,4 +1,4 @@
-use Rattle.std.proofs.Common.{ℕ, List, bit_xor}
+use Rattle.std.proofs.Common.{bit_xor}
 use Rattle.std.proofs.lemmas.Simd.{zip2_of_maps}
 use Rattle.ov_aes.specs.Nibbles.{entry, first_place, second_place, nibble_sum}
 use Rattle.ov_aes.proofs.NibbleFacts.{through}

@@ -1,4 +1,3 @@
-use Rattle.std.proofs.Common.{sym}
 use Rattle.ov_ghash.specs.Ghash.{Holds}
 use Rattle.ov_ghash.proofs.Ghash.update.Goals as goal
 

@@ -1,4 +1,4 @@
-use Rattle.std.proofs.Common.{ℕ, arith}
+use Rattle.std.proofs.Common.{arith}
 use Rattle.ov_ghash.proofs.RowFacts.{splat-at, splat_small}
 use Rattle.ov_ghash.proofs.subkey.first_halves.Goals as goal
 

@@ -1,4 +1,4 @@
-use Rattle.std.proofs.Common.{ℕ, ◌≡◌, ◌+◌, ◌*◌, ◌-◌, ◌/◌, ◌<◌, List, length, get_or, w8, refl, sym, ap, ◌∙◌, arith, rules}
+use Rattle.std.proofs.Common.{ℕ, ◌≡◌, ◌+◌, ◌*◌, ◌-◌, ◌/◌, ◌<◌, List, length, get_or, w8, refl, ap, ◌∙◌, arith}
 use Rattle.std.proofs.lemmas.Simd.{SwzOk-from_below, get_or-swz_l_below, get_or-chunk, Each1-get_or}
 use lib.Lanes.{chunk}
 use Rattle.ov_ghash.proofs.subkey.looked_up.Goals as goal

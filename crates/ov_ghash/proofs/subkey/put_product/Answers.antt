@@ -1,4 +1,4 @@
-use Rattle.std.proofs.Common.{ℕ, ◌≡◌, ◌≢◌, ◌+◌, ◌*◌, ◌%◌, ◌<◌, length, get_or, refl, ap, ◌∙◌, arith, rules, below_more, get_or-set_same, get_or-set_other}
+use Rattle.std.proofs.Common.{ℕ, ◌≡◌, ◌≢◌, ◌+◌, ◌*◌, length, get_or, refl, ◌∙◌, arith, rules, below_more, get_or-set_same, get_or-set_other}
 use Rattle.ov_ghash.proofs.subkey.put_product.Goals as goal
 
 pub loop-i-init : goal.loop-i-init

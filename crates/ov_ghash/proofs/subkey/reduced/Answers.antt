@@ -1,6 +1,5 @@
 use Rattle.std.proofs.Common.{arith}
 use Rattle.ov_ghash.proofs.ByBytes.{reduced-is}
-use Rattle.ov_ghash.proofs.RowFacts.{rows-all}
 use Rattle.ov_ghash.proofs.subkey.reduced.Goals as goal
 
 pub returns : goal.returns

@@ -1,5 +1,5 @@
-use Rattle.std.proofs.Common.{ℕ, ◌≡◌, ◌≢◌, ◌+◌, ◌*◌, ◌/◌, ◌%◌, ◌<◌, List, length, get_or, refl, sym, ap, ◌∙◌, subst, arith, rules, ⊎_elim}
-use Rattle.std.specs.Int.{w128, byte_at, to_le_bytes}
+use Rattle.std.proofs.Common.{ℕ, ◌≡◌, ◌≢◌, ◌+◌, ◌*◌, ◌/◌, ◌%◌, List, get_or, refl, sym, ap, ◌∙◌, arith, rules, ⊎_elim}
+use Rattle.std.specs.Int.{byte_at}
 use Rattle.std.proofs.lemmas.Bool.{cases_lt}
 use Rattle.ov_ghash.proofs.Tables.{get_or-products}
 use Rattle.ov_ghash.proofs.RowFacts.{rows-are, get_or-low_first}

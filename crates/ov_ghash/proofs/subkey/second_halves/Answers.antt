@@ -1,4 +1,4 @@
-use Rattle.std.proofs.Common.{ℕ, ◌∙◌, get_or, arith}
+use Rattle.std.proofs.Common.{◌∙◌, get_or, arith}
 use Rattle.std.proofs.lemmas.Nat.{and_mask}
 use Rattle.ov_ghash.proofs.RowFacts.{splat-at, splat_small}
 use Rattle.ov_ghash.proofs.subkey.second_halves.Goals as goal

@@ -1,4 +1,4 @@
-use Rattle.std.proofs.Common.{◌≡◌, ◌/◌, ◌%◌, ◌*◌, ◌^◌, bit_and, bit_xor, ap, arith}
+use Rattle.std.proofs.Common.{◌≡◌, ◌/◌, ◌%◌, ◌*◌, ◌^◌, bit_and, bit_xor, ap}
 use Rattle.std.proofs.lemmas.Nat.{and_mask}
 use Rattle.ov_ghash.specs.Turn.{turn}
 use Rattle.ov_ghash.proofs.table.turned.Goals as goal

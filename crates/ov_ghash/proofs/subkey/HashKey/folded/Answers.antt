@@ -1,4 +1,4 @@
-use Rattle.std.proofs.Common.{◌≡◌, ℕ, ◌<◌, length, get_or, sym, ap, ◌∙◌, arith, rules}
+use Rattle.std.proofs.Common.{◌≡◌, ℕ, ◌<◌, length, get_or, sym, ap, ◌∙◌, rules}
 use Rattle.std.specs.Int.{w128, to_be_bytes}
 use Rattle.ov_ghash.specs.Ghash.{IsPrepared}
 use Rattle.ov_ghash.proofs.Held.{ghash-more}

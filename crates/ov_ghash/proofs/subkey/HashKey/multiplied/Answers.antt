@@ -1,10 +1,8 @@
-use Rattle.std.proofs.Common.{◌≡◌, ℕ, ◌+◌, ◌*◌, ◌/◌, ◌%◌, ◌<◌, List, length, get_or, bit_xor, refl, sym, ap, ap₂, ◌∙◌, arith, rules}
-use Rattle.std.specs.Int.{byte_at}
+use Rattle.std.proofs.Common.{◌≡◌, ℕ, ◌+◌, ◌*◌, ◌%◌, ◌<◌, List, length, get_or, bit_xor, refl, sym, ap, ap₂, ◌∙◌, arith, rules}
 use lib.Lanes.{zip2}
 use Rattle.std.proofs.lemmas.Simd.{get_or-zip2, length-zip2}
-use Rattle.ov_ghash.specs.Block.{bits, number_of}
-use Rattle.ov_ghash.specs.Turn.{turn, turns, horner}
-use Rattle.ov_ghash.specs.Rows.{rows}
+use Rattle.ov_ghash.specs.Block.{number_of}
+use Rattle.ov_ghash.specs.Turn.{turn, turns}
 use Rattle.ov_ghash.specs.Ghash.{IsPrepared, prepared}
 use Rattle.ov_ghash.proofs.ByBytes.{by_bytes, by_bytes-more}
 use Rattle.ov_ghash.proofs.RowFacts.{vector, row_of, row-more, rows-byte, rows-all, vector-row, number_of-vector, number_of-last, bytes_small, zeros, zeros-more}

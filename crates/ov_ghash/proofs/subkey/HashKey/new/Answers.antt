@@ -1,5 +1,4 @@
-use Rattle.std.proofs.Common.{◌≡◌, ℕ, ◌<◌, ◌^◌, sym, ap, ◌∙◌, arith}
-use Rattle.ov_ghash.specs.Block.{number_of}
+use Rattle.std.proofs.Common.{sym, ap, ◌∙◌, arith}
 use Rattle.ov_ghash.specs.Turn.{turns}
 use Rattle.ov_ghash.specs.Rows.{rows}
 use Rattle.ov_ghash.specs.Ghash.{IsPrepared, prepared}
