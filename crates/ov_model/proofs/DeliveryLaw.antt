@@ -134,14 +134,8 @@ record DeliversUse (via : Addr → Addr) (place : Place) (at : ℕ) (d : Deed) (
   row_is : use_row via place at d h m u ≡ rx_row via place at h packet bytes (used.Settled settled.Deliver)
 
 delivers_use : (via : Addr → Addr) (place : Place) (at : ℕ) (d : Deed) (h : HoldView) (m : Material) (u : Use) (id : PeerId) (packet : List ℕ) → UseFits d m u → answer.Delivered id packet ≡ (use_row via place at d h m u).answer → DeliversUse via place at d h m u id packet
-delivers_use via place at (deed.Netlink n) h m u id packet fits is = absurd fits
 delivers_use via place at (deed.Tx p) h m (used.Sealed n) id packet fits is = cc
 delivers_use via place at (deed.Tx p) h m (used.Spent killed) id packet fits is = cc
-delivers_use via place at (deed.Tx p) h m used.BadTag id packet fits is = absurd fits
-delivers_use via place at (deed.Tx p) h m (used.Refused x) id packet fits is = absurd fits
-delivers_use via place at (deed.Tx p) h m (used.Settled x) id packet fits is = absurd fits
-delivers_use via place at (deed.Rx from bytes) h m (used.Sealed n) id packet fits is = absurd fits
-delivers_use via place at (deed.Rx from bytes) h m (used.Spent killed) id packet fits is = absurd fits
 delivers_use via place at (deed.Rx from bytes) h m used.BadTag id packet fits is = cc
 delivers_use via place at (deed.Rx from bytes) h m (used.Refused x) id packet fits is = cc
 delivers_use via place at (deed.Rx from bytes) h m (used.Settled settled.Deliver) id packet fits is =
@@ -151,6 +145,7 @@ delivers_use via place at (deed.Rx from bytes) h m (used.Settled settled.Deliver
 delivers_use via place at (deed.Rx from bytes) h m (used.Settled settled.Ping) id packet fits is = cc
 delivers_use via place at (deed.Rx from bytes) h m (used.Settled settled.NotIp) id packet fits is = cc
 delivers_use via place at (deed.Rx from bytes) h m (used.Settled settled.NotOwner) id packet fits is = cc
+delivers_use via place at _ h m _ id packet fits is = absurd fits
 
 record DeliveredRow (material : ℕ → Option Material) (place : Place) (line : Line) (ss : List Step) (js : List Judgement) (id : PeerId) (packet : List ℕ) : Type 0 where
   x : Act

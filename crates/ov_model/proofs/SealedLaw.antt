@@ -79,22 +79,17 @@ record Seals (d : Deed) (h : HoldView) (m : Material) (s : SealedOut) : Type 0 w
   sealed : s ≡ record { to = h.to; key = h.key; id = s.id; datagram = sealed_datagram h m s.id packet }
 
 seals : (via : Addr → Addr) (place : Place) (at : ℕ) (d : Deed) (h : HoldView) (m : Material) (u : Use) (s : SealedOut) → UseFits d m u → answer.Sealed s ≡ (use_row via place at d h m u).answer → Seals d h m s
-seals via place at (deed.Netlink n) h m u s fits is = absurd fits
 seals via place at (deed.Tx packet) h m (used.Sealed n) s fits is =
     let its : s ≡ record { to = h.to; key = h.key; id = n; datagram = sealed_datagram h m n packet } = cc in
     subst (Seals (deed.Tx packet) h m) (sym its) (record { packet = packet; sends = refl; sealed = refl })
 seals via place at (deed.Tx packet) h m (used.Spent killed) s fits is = cc
-seals via place at (deed.Tx packet) h m used.BadTag s fits is = absurd fits
-seals via place at (deed.Tx packet) h m (used.Refused x) s fits is = absurd fits
-seals via place at (deed.Tx packet) h m (used.Settled x) s fits is = absurd fits
-seals via place at (deed.Rx from bytes) h m (used.Sealed n) s fits is = absurd fits
-seals via place at (deed.Rx from bytes) h m (used.Spent killed) s fits is = absurd fits
 seals via place at (deed.Rx from bytes) h m used.BadTag s fits is = cc
 seals via place at (deed.Rx from bytes) h m (used.Refused x) s fits is = cc
 seals via place at (deed.Rx from bytes) h m (used.Settled settled.Deliver) s fits is = cc
 seals via place at (deed.Rx from bytes) h m (used.Settled settled.Ping) s fits is = cc
 seals via place at (deed.Rx from bytes) h m (used.Settled settled.NotIp) s fits is = cc
 seals via place at (deed.Rx from bytes) h m (used.Settled settled.NotOwner) s fits is = cc
+seals via place at _ h m _ s fits is = absurd fits
 
 -- A sealed answer stands in the row of a round.
 record SealedRow (material : ℕ → Option Material) (place : Place) (line : Line) (ss : List Step) (s : SealedOut) : Type 0 where

@@ -20,7 +20,7 @@ use Rattle.ov_model.specs.Keys.{key_of}
 use Rattle.ov_model.specs.Legal.{LaneMeets}
 use Rattle.ov_model.specs.Own.{mine, mine_shards, if_any, picked, positions, AreAll, own_by, RiseFrom, steps_at, LaneStands}
 use Rattle.ov_model.proofs.Going.{steps_after-append}
-use Rattle.ov_model.proofs.Lanes.{Knows, all_append, all_weaker, own_steps, own_judged, line_done, lane_knows, lane_done, judged_in}
+use Rattle.ov_model.proofs.Lanes.{AtPlace, Knows, all_append, all_weaker, own_steps, own_judged, line_done, lane_knows, lane_done, judged_in}
 use Rattle.ov_model.proofs.Mine.{lane_whole}
 use Rattle.ov_model.proofs.Picked.{at_passes, elem_within, picked_front, picked-append, picked_along}
 
@@ -40,15 +40,17 @@ own_stays seen rest own below =
     all_positions P [] all = tt
     all_positions P (e ∷ own) all = (all.0, all_positions P own all.1)
 
--- One more position.
-rise_more : (b at : ℕ) (own : List (ℕ × Entry)) (s : Entry) → RiseFrom b (positions own) → AllByRecursion (λ e. e.0 < at) own → b ≤ at → RiseFrom b (positions (own ++ (at, s) ∷ []))
-rise_more b at [] s rise below least = (least, tt)
-rise_more b at (e ∷ own) s rise below least = (rise.0, rise_more (suc e.0) at own s rise.1 below.1 below.0)
+-- More positions, behind what was seen.
+rise_lower : (b c : ℕ) (ps : List ℕ) → b ≤ c → RiseFrom c ps → RiseFrom b ps
+rise_lower b c [] least rise = tt
+rise_lower b c (p ∷ ps) least rise = (let above : c ≤ p = rise.0 in omega arith, rise.1)
 
-steps_at-push : (seen : List Entry) (own : List (ℕ × Entry)) (at : ℕ) (s : Step) → get_elem? (steps_of seen) at ≡ some s → steps_at seen (own ++ (at, s.entry) ∷ []) ≡ steps_at seen own ++ s ∷ []
-steps_at-push seen own at s is =
-    let one : picked (steps_of seen) (at ∷ []) ≡ s ∷ [] = ap (λ o. if_any o ++ []) is in
-    ap (picked (steps_of seen)) (map-append (λ (e : ℕ × Entry). e.0) own ((at, s.entry) ∷ [])) ∙ picked-append (steps_of seen) (positions own) (at ∷ []) ∙ ap (λ l. steps_at seen own ++ l) one
+rise_append : (b c : ℕ) (own new : List (ℕ × Entry)) → RiseFrom b (positions own) → AllByRecursion (λ e. e.0 < c) own → b ≤ c → RiseFrom c (positions new) → RiseFrom b (positions (own ++ new))
+rise_append b c [] new rise below least more = rise_lower b c (positions new) least more
+rise_append b c (e ∷ own) new rise below least more = (rise.0, rise_append (suc e.0) c own new rise.1 below.1 below.0 more)
+
+pub steps_at-append : (seen : List Entry) (own new : List (ℕ × Entry)) → steps_at seen (own ++ new) ≡ steps_at seen own ++ steps_at seen new
+steps_at-append seen own new = ap (picked (steps_of seen)) (map-append (λ (e : ℕ × Entry). e.0) own new) ∙ picked-append (steps_of seen) (positions own) (positions new)
 
 -- ---- a lane that stands
 
@@ -62,19 +64,27 @@ stands_grows {via} {lane} {own} {shards} {lines} {answers} {now} {judged} seen r
   runs = rw (own_stays seen rest own stands.below) (lane_knows (key_of seen) (key_of (seen ++ rest)) via (steps_at seen own) shards lane lines answers now judged knows stands.runs);
 }
 
--- One more step of its line under way, behind what it had seen.
+-- More steps of its line under way, behind what it had seen.
+pub stands_steps : {via : Addr → Addr} {lane : ℕ} {own : List (ℕ × Entry)} {shards : List (List ReplayEntry)} {lines : List Line} {answers : List Answer} {now : List Step} {judged : List Judgement} (seen rest : List Entry) (new : List (ℕ × Entry)) (ss : List Step) → Knows (key_of seen) (key_of (seen ++ rest))
+    → LaneStands via lane seen own shards lines answers now judged → RiseFrom (length seen) (positions new) → AllByRecursion (λ e. e.0 < length (seen ++ rest)) new → AllByRecursion (λ e. e.1.place.lane ≡ lane) new → steps_at (seen ++ rest) new ≡ ss → AllByRecursion (AtPlace lane (length answers)) ss
+    → LaneStands via lane (seen ++ rest) (own ++ new) shards lines answers (now ++ ss) judged
+stands_steps {via} {lane} {own} {shards} {lines} {answers} {now} {judged} seen rest new ss knows stands late below lanes are places =
+    let more = stands_grows seen rest knows stands in
+    record {
+      rise = rise_append 0 (length seen) own new stands.rise stands.below (omega arith) late;
+      below = all_append (λ e. e.0 < length (seen ++ rest)) own new more.below below;
+      placed = all_append (λ e. e.1.place.lane ≡ lane) own new stands.placed lanes;
+      runs = rw (steps_at-append (seen ++ rest) own new, are) (own_steps (steps_at (seen ++ rest) own) ss shards lane lines answers now judged more.runs places);
+    }
+
+-- One more.
 pub stands_step : {via : Addr → Addr} {lane : ℕ} {own : List (ℕ × Entry)} {shards : List (List ReplayEntry)} {lines : List Line} {answers : List Answer} {now : List Step} {judged : List Judgement} (seen rest : List Entry) (at : ℕ) (s : Step) → Knows (key_of seen) (key_of (seen ++ rest))
     → LaneStands via lane seen own shards lines answers now judged → length seen ≤ at → get_elem? (steps_of (seen ++ rest)) at ≡ some s → s.entry.place ≡ record { lane = lane; line = length answers }
     → LaneStands via lane (seen ++ rest) (own ++ (at, s.entry) ∷ []) shards lines answers (now ++ s ∷ []) judged
-stands_step {via} {lane} {own} {shards} {lines} {answers} {now} {judged} seen rest at s knows stands late is place =
-    let more = stands_grows seen rest knows stands in
-    let within : at < length (seen ++ rest) = let a : at < length (steps_of (seen ++ rest)) = elem_within (steps_of (seen ++ rest)) at s is in let b : length (steps_of (seen ++ rest)) ≡ length (seen ++ rest) = length-steps_after empty_table (seen ++ rest) in omega arith in
-    record {
-      rise = rise_more 0 at own s.entry stands.rise (all_weaker (λ e. e.0 < length seen) (λ e. e.0 < at) (λ e below. let before : e.0 < length seen = below in omega arith) own stands.below) (omega arith);
-      below = all_append (λ e. e.0 < length (seen ++ rest)) own ((at, s.entry) ∷ []) more.below (within, tt);
-      placed = all_append (λ e. e.1.place.lane ≡ lane) own ((at, s.entry) ∷ []) stands.placed (ap (λ (p : Place). p.lane) place, tt);
-      runs = rw (steps_at-push (seen ++ rest) own at s is) (own_steps (steps_at (seen ++ rest) own) (s ∷ []) shards lane lines answers now judged more.runs (place, tt));
-    }
+stands_step {lane = lane} seen rest at s knows stands late is place =
+    let within : at < length (steps_of (seen ++ rest)) = elem_within (steps_of (seen ++ rest)) at s is in
+    let long : length (steps_of (seen ++ rest)) ≡ length (seen ++ rest) = length-steps_after empty_table (seen ++ rest) in
+    stands_steps seen rest ((at, s.entry) ∷ []) (s ∷ []) knows stands (late, tt) (omega arith, tt) (ap (λ (p : Place). p.lane) place, tt) (ap (λ o. if_any o ++ []) is) (place, tt)
 
 -- Its replay step.
 pub stands_judged : {via : Addr → Addr} {lane : ℕ} {seen : List Entry} {own : List (ℕ × Entry)} {shards : List (List ReplayEntry)} {lines : List Line} {answers : List Answer} {now : List Step} (k : ℕ) (r : ReplayEntry)

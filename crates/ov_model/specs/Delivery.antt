@@ -18,6 +18,7 @@ use Rattle.ov_model.specs.Runs.{table_after}
 use Rattle.ov_model.specs.Keys.{key_of}
 use Rattle.ov_model.specs.Laws.{Receives, IsEntryOf, LooksUp, judged_at, answer_at}
 
+-- A line received some datagram.
 pub record IsReceived (report : Report) (lane line : ℕ) : Type 0 where
   pub from : Transport
   pub bytes : List ℕ

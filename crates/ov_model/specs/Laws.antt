@@ -36,10 +36,11 @@ pub record HasDeed (report : Report) (lane line : ℕ) (what : Deed) : Type 0 wh
   pub its_is : slice_get log.lines line ≡ Some its
   pub deed_is : its.deed ≡ what
 
--- It sent an inner packet, or it received a datagram.
+-- It sent an inner packet.
 abbrev pub Sends : Report → (lane line : ℕ) → List ℕ → Type 0
 Sends report lane line packet = HasDeed report lane line (deed.Tx packet)
 
+-- It received a datagram.
 abbrev pub Receives : Report → (lane line : ℕ) → Transport → List ℕ → Type 0
 Receives report lane line from bytes = HasDeed report lane line (deed.Rx from bytes)
 
@@ -71,6 +72,7 @@ AcceptsOnce shards = (s t i j : ℕ) (a b : ReplayEntry) → judged_at shards s 
 abbrev pub answer_at : List LaneLog → (lane line : ℕ) → Option Answer
 answer_at lanes lane line = option_and_then (λ log. slice_get log.answers line) (slice_get lanes lane)
 
+-- A line was answered with a sealed datagram.
 abbrev pub IsSealed : Report → (lane line : ℕ) → SealedOut → Type 0
 IsSealed report lane line s = answer_at report.lanes lane line ≡ Some (answer.Sealed s)
 
@@ -88,6 +90,7 @@ pub record SealedUnder (report : Report) (lane line : ℕ) (s : SealedOut) : Typ
   pub material_is : key_of report.journal hold.key ≡ Some material
   pub datagram_is : s.datagram ≡ datagram hold.id.number hold.key_id.number s.id (key_list material.encrypt.key) material.encrypt.tail packet
 
+-- Each sealed answer is sealed so.
 abbrev pub SealsUnderHeld : Report → Type 0
 SealsUnderHeld report = (lane line : ℕ) (s : SealedOut) → IsSealed report lane line s → SealedUnder report lane line s
 

@@ -13,17 +13,20 @@ use Rattle.ov_model.specs.Events.{Step, Judgement, steps_of}
 use Rattle.ov_model.specs.Keys.{key_of}
 use Rattle.ov_model.specs.Lanes.{LaneRuns}
 
--- Of the steps of all lanes those of one, and the same of the replay steps of a shard and of each shard.
+-- Of the steps of all lanes those of one.
 abbrev pub mine : ℕ → List Step → List Step
 mine lane ss = filter (λ s. s.entry.place.lane == lane) ss
 
+-- The replay steps of one lane in a shard.
 abbrev pub mine_judged : ℕ → List ReplayEntry → List ReplayEntry
 mine_judged lane rs = filter (λ r. r.place.lane == lane) rs
 
+-- The replay steps of one lane in each shard.
 abbrev pub mine_shards : ℕ → List (List ReplayEntry) → List (List ReplayEntry)
 mine_shards lane shards = map (mine_judged lane) shards
 
 module _ {X : Type 0} where
+  -- The member, where there is one.
   abbrev pub if_any : Option X → List X
   if_any none = []
   if_any (some x) = x ∷ []
@@ -33,10 +36,11 @@ module _ {X : Type 0} where
   picked xs [] = []
   picked xs (p ∷ ps) = if_any (get_elem? xs p) ++ picked xs ps
 
-  -- Members that are named with their positions: the positions alone, and how many are named at one.
+  -- The positions of members that are named with theirs.
   abbrev pub positions : List (ℕ × X) → List ℕ
   positions own = map (λ e. e.0) own
 
+  -- How many members are named at a position.
   abbrev pub times_at : ℕ → List (ℕ × X) → ℕ
   times_at p own = total (λ e. if e.0 == p then 1 else 0) own
 

@@ -47,6 +47,7 @@ pub data Begin : Type 0 where
   at_once : Answer → Begin
   first : Act → Begin
 
+-- A netlink message is a command, or is refused by its attributes alone.
 abbrev pub begins_netlink : Result Command Errno → Begin
 begins_netlink (Err e) = at_once (answer.Reply (reply.Refused e))
 begins_netlink (Ok c) = first (act.Do c)
@@ -63,12 +64,14 @@ abbrev pub rx_look_by : Option PeerId → Option KeyId → Transport → Begin
 rx_look_by (Some id) (Some key_id) from = first (act.RxLook id key_id from)
 rx_look_by _ _ from = at_once (answer.Dropped drop.Short)
 
+-- Of received datagrams data packets of the second version alone are looked up.
 abbrev pub begins_rx : Transport → HeadKind → Begin
 begins_rx from short = at_once (answer.Dropped drop.Short)
 begins_rx from data_v1 = at_once (answer.Dropped drop.DataV1)
 begins_rx from control = at_once answer.Control
 begins_rx from (data_v2 id key n) = rx_look_by (peer_id id) (key_id key) from
 
+-- How a line begins, by what it has to do.
 abbrev pub begins : (Addr → Addr) → Deed → Begin
 begins via (deed.Netlink m) = begins_netlink (checked m)
 begins via (deed.Tx packet) = begins_tx via (inner_of packet)
@@ -132,19 +135,21 @@ UseFits (deed.Rx from bytes) m (used.Refused x) = IsSome (opened m.decrypt bytes
 UseFits (deed.Rx from bytes) m (used.Settled s) = IsSome (opened m.decrypt bytes)
 UseFits _ m _ = ⊥
 
--- The key that a spent use took out of its slot, and the reply that says so.
+-- The key that a spent use took out of its slot.
 abbrev pub spent_taken : Bool → ℕ → List ℕ
 spent_taken true key = key ∷ []
 spent_taken false key = []
 
+-- The reply to a spent use: the key was killed, or had left its slot before.
 abbrev pub spent_reply : Bool → Reply
 spent_reply true = reply.Killed
 spent_reply false = reply.AlreadyGone
 
--- The step of the table that a use makes, of tx and of rx.
+-- The step of the table after a packet was sealed.
 abbrev pub sent_act : HoldView → List ℕ → Act
 sent_act h packet = act.Sent h.peer (length packet) (outer_length (length packet)) false
 
+-- The step of the table after a fresh packet id: the packet is settled by its source; no line floats.
 abbrev pub settle_act : (Addr → Addr) → HoldView → (packet bytes : List ℕ) → Act
 settle_act via h packet bytes = act.Settle h.peer None (kind_via via (kind_of packet)) (length packet) (length bytes)
 
@@ -152,14 +157,14 @@ settle_act via h packet bytes = act.Settle h.peer None (kind_via via (kind_of pa
 abbrev pub replay_of : Place → ℕ → HoldView → List ℕ → Verdict → Judgement
 replay_of place at h bytes v = record { place = place; key = h.key; id = packet_id_of bytes; at = at; verdict = v }
 
--- A refusal is one of the verdicts, and a packet id that isn't fresh is dropped with the refusal's own
--- cause.
+-- A refusal is one of the verdicts.
 abbrev pub refused_as : Refusal → Verdict
 refused_as refusal.Zero = verdict.Zero
 refused_as refusal.Old = verdict.Old
 refused_as refusal.Below = verdict.Below
 refused_as refusal.Again = verdict.Again
 
+-- A packet id that isn't fresh is dropped with the refusal's own cause.
 abbrev pub cause_of : Refusal → DropCause
 cause_of refusal.Zero = drop.Zero
 cause_of refusal.Old = drop.Old
@@ -173,6 +178,7 @@ settled_answer settled.Ping h packet = answer.Keepalive h.id
 settled_answer settled.NotIp h packet = answer.Dropped drop.NotIp
 settled_answer settled.NotOwner h packet = answer.Dropped drop.NotOwner
 
+-- The datagram of a packet: the head of the hold, the packet sealed with the material that encrypts.
 abbrev pub sealed_datagram : HoldView → Material → ℕ → List ℕ → List ℕ
 sealed_datagram h m n packet = datagram h.id.number h.key_id.number n (key_list m.encrypt.key) m.encrypt.tail packet
 
@@ -235,22 +241,27 @@ pub record Round : Type 0 where
   pub key : Bool
   pub peer : Bool
 
+-- What a round asks: its material is that of the held key, and the line can make this use.
 abbrev pub RoundFits : (ℕ → Option Material) → Deed → Round → Type 0
 RoundFits material d r = (material r.hold.key ≡ Some r.material) × UseFits d r.material r.made
 
+-- The row of a round's use.
 abbrev pub round_row : (Addr → Addr) → Place → ℕ → Deed → Round → Columns
 round_row via place at d r = use_row via place at d r.hold r.material r.made
 
+-- A round's steps: the look-up with its hold, those of the use, the releases.
 abbrev pub round_steps : (Addr → Addr) → Place → ℕ → Deed → Round → List Step
 round_steps via place at d r = step_of place at r.look (reply.Hold r.hold) [] ∷ ((round_row via place at d r).steps ++ releases place at (hold_owed r.hold r.key r.peer))
 
 -- ---- the rows
 
+-- An act that looks a peer and its key up.
 abbrev pub IsLook : Act → Type 0
 IsLook (act.TxLook a) = ⊤
 IsLook (act.RxLook id key_id from) = ⊤
 IsLook _ = ⊥
 
+-- A look-up's reply without a hold, with its cause.
 abbrev pub IsMiss : Reply → DropCause → Type 0
 IsMiss reply.NoPeer cause = cause ≡ drop.NoPeer
 IsMiss reply.NoKey cause = cause ≡ drop.NoKey
