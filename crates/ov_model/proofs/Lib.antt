@@ -20,3 +20,4 @@ pub mod Places
 pub mod DeliveryLaw
 pub mod Tallies
 pub mod LifetimeLaw
+pub mod Examples

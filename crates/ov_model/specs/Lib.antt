@@ -16,3 +16,4 @@ pub mod Legal
 pub mod Laws
 pub mod Delivery
 pub mod Lifetime
+pub mod Examples

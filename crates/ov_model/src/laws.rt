@@ -1,6 +1,6 @@
 //! What follows from the definitions alone. Each law is the contract of a function that does nothing.
 
-ghost use Rattle.std.specs.Prelude.{ℕ, List, ◌≡◌, ◌↔◌, Some};
+ghost use Rattle.std.specs.Prelude.{ℕ, List, ◌≡◌, ◌↔◌, ◌==◌, false, Some};
 ghost use Rattle.ov_base.specs.declared.address.Transport.{Transport};
 ghost use Rattle.ov_model.specs.declared.answer.Answer.{Answer};
 ghost use Rattle.ov_model.specs.declared.answer.Answer.TheVariants.{Delivered};
@@ -15,7 +15,11 @@ ghost use Rattle.ov_model.specs.Legal.{Legal};
 ghost use Rattle.ov_model.specs.Keys.{KeysDiffer};
 ghost use Rattle.ov_model.specs.Laws.{answer_at, AcceptsOnce, IsSealed, SealedUnder, NoncesDiffer};
 ghost use Rattle.ov_model.specs.Delivery.{Receives, IsReceived, Delivers};
+ghost use Rattle.ov_model.specs.declared.ident.KeyId.{KeyId};
+ghost use Rattle.ov_model.specs.Ident.{peer_id, key_id};
 ghost use Rattle.ov_model.specs.Lifetime.{PeersStayReleased, KeysStayReleased};
+ghost use Rattle.ov_model.specs.Tables.{Key};
+ghost use Rattle.ov_model.specs.Examples.{WindowExamples, DatagramExamples, InnerExamples, MessageExamples, NewExamples, LookExamples, IdExamples};
 
 /// In every run the notes of each removal are those of the removed peers, in order, with the reason,
 /// and no peer is removed twice. Each entry that killed a key has exactly one key-swap note, no other entry
@@ -58,4 +62,17 @@ pub fn n4()
     ensures peers { (journal : List Entry) → IsRun journal → PeersStayReleased journal }
     ensures keys { (journal : List Entry) → IsRun journal → KeysStayReleased journal }
     ensures report { (script : Script) (first : ℕ) (report : Report) → Legal script first report → PeersStayReleased report.journal × KeysStayReleased report.journal }
+{}
+
+/// Worked examples of the definitions, each computed from them: where the replay window ends and where a gap
+/// makes a floor, what a datagram and an inner packet are read as, how a datagram opens and doesn't, what
+/// becomes of a message of each operation, the refusals of peer-new in their order, and the look-ups.
+pub fn examples()
+    ensures window { WindowExamples }
+    ensures datagrams { DatagramExamples }
+    ensures packets { InnerExamples }
+    ensures ids { IdExamples }
+    ensures messages { (id : PeerId) (key : KeyId) → peer_id 5 ≡ Some id → key_id 2 ≡ Some key → MessageExamples id key }
+    ensures new { (id other : PeerId) → (id.number == other.number) ≡ false → NewExamples id other }
+    ensures looks { (id : PeerId) (k l : Key) → (id.number == 16777215) ≡ false → (k.key_id.number == l.key_id.number) ≡ false → LookExamples id k l }
 {}
