@@ -23,3 +23,4 @@ pub mod LifetimeLaw
 pub mod Mine
 pub mod Picked
 pub mod Stands
+pub mod Examples

@@ -18,3 +18,4 @@ pub mod Own
 pub mod Laws
 pub mod Delivery
 pub mod Lifetime
+pub mod Examples

@@ -1,13 +1,18 @@
 //! What follows from the definitions alone. Each law is the contract of a function that does nothing.
 
-ghost use Rattle.std.specs.Prelude.{List, ◌↔◌};
+ghost use Rattle.std.specs.Prelude.{List, ◌≡◌, ◌↔◌, ◌==◌, false, Some};
 ghost use Rattle.ov_model.specs.declared.entry.Entry.{Entry};
 ghost use Rattle.ov_model.specs.Runs.{IsRun, notes_of};
 ghost use Rattle.ov_model.specs.Removals.{RemovalsNoted, AllReleased, EachReleasedOnce};
 ghost use Rattle.ov_model.specs.Keys.{KeysDiffer};
 ghost use Rattle.ov_model.specs.Laws.{OfEveryLegal, SealsUnderHeld, NoncesDiffer, AcceptsOnce};
 ghost use Rattle.ov_model.specs.Delivery.{DeliversExactly, DeliversReceived, DeliversOnce};
+ghost use Rattle.ov_model.specs.declared.ident.KeyId.{KeyId};
+ghost use Rattle.ov_model.specs.declared.ident.PeerId.{PeerId};
+ghost use Rattle.ov_model.specs.Ident.{peer_id, key_id};
 ghost use Rattle.ov_model.specs.Lifetime.{PeersStayReleased, KeysStayReleased};
+ghost use Rattle.ov_model.specs.Tables.{Key};
+ghost use Rattle.ov_model.specs.Examples.{WindowExamples, DatagramExamples, InnerExamples, MessageExamples, NewExamples, LookExamples, IdExamples};
 
 /// In every run the notes of each removal are those of the removed peers, in order, with the reason,
 /// and no peer is removed twice. Each entry that killed a key has exactly one key-swap note, no other entry
@@ -58,4 +63,17 @@ pub fn n4()
     ensures peers { (journal : List Entry) → IsRun journal → PeersStayReleased journal }
     ensures keys { (journal : List Entry) → IsRun journal → KeysStayReleased journal }
     ensures report { OfEveryLegal (λ r. PeersStayReleased r.journal × KeysStayReleased r.journal) }
+{}
+
+/// Worked examples of the definitions, each computed from them: where the replay window ends and where a gap
+/// makes a floor, what a datagram and an inner packet are read as, how a datagram opens and doesn't, what
+/// becomes of a message of each operation, the refusals of peer-new in their order, and the look-ups.
+pub fn examples()
+    ensures window { WindowExamples }
+    ensures datagrams { DatagramExamples }
+    ensures packets { InnerExamples }
+    ensures ids { IdExamples }
+    ensures messages { (id : PeerId) (key : KeyId) → peer_id 5 ≡ Some id → key_id 2 ≡ Some key → MessageExamples id key }
+    ensures new { (id other : PeerId) → (id.number == other.number) ≡ false → NewExamples id other }
+    ensures looks { (id : PeerId) (k l : Key) → (id.number == 16777215) ≡ false → (k.key_id.number == l.key_id.number) ≡ false → LookExamples id k l }
 {}

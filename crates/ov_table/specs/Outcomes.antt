@@ -8,6 +8,7 @@ use Rattle.ov_model.specs.declared.note.NoteBody.{NoteBody}
 use Rattle.ov_model.specs.declared.note.NoteBody.TheVariants as note
 use Rattle.ov_model.specs.Tables.{Peer, Key, Table, in_slot, key_if_any, key_serials, by_key, without_key, by_remote}
 use Rattle.ov_model.specs.Step as model
+use Rattle.ov_table.specs.declared.outcome.Outcome.{Outcome}
 
 -- The note of a step, or none.
 abbrev pub note_list : Option NoteBody → List NoteBody
@@ -20,8 +21,11 @@ serial_list None = []
 serial_list (Some key) = key ∷ []
 
 -- The outcome of a step that takes at most two keys out of their slots.
-abbrev pub outcome : Table → Reply → Option NoteBody → (first second : Option ℕ) → model.Outcome
-outcome after reply note first second = record { after = after; reply = reply; taken = serial_list first ++ serial_list second; notes = note_list note }
+abbrev pub outcome_with : Table → Reply → Option NoteBody → (first second : Option ℕ) → model.Outcome
+outcome_with after reply note first second = record { after = after; reply = reply; taken = serial_list first ++ serial_list second; notes = note_list note }
+
+abbrev pub outcome : Table → Outcome → model.Outcome
+outcome after o = outcome_with after o.reply o.note o.first o.second
 
 -- A transport that a peer may float to: no live peer has it.
 abbrev pub free : List Peer → Option Transport → Option Transport

@@ -38,13 +38,14 @@ pub struct Peers {
 
 impl Model for Peers {
     ghost use Rattle.std.specs.Prelude.{◌≤◌, ◌+◌, length};
+    ghost use Rattle.ov_model.specs.Limits.{most_peers, most_keys};
     ghost use Rattle.ov_model.specs.Tables.{Table};
 
     ghost Value = { Table };
 
     ghost view = { λ t. record { live = t.live.items; dying = t.dying.items; retired = t.retired.items; made = t.made; keys_made = t.keys_made; moment = t.moment } };
 
-    ghost invariant = { λ t. (t.made ≤ 4096) × (length t.live.items + length t.dying.items ≤ t.made) × (t.keys_made ≤ 65536) };
+    ghost invariant = { λ t. (t.made ≤ most_peers) × (length t.live.items + length t.dying.items ≤ t.made) × (t.keys_made ≤ most_keys) };
 }
 
 impl Peers {
@@ -97,7 +98,8 @@ impl Peers {
 
     /// Whether a peer with this serial isn't let go yet.
     fn is_there(&self, peer: u32) -> bool
-        ensures { result ≡ (model.is_there peer self.now.live || model.is_there peer self.now.dying) }
+        ensures { result ≡
+            (model.is_there peer self.now.live || model.is_there peer self.now.dying) }
     {
         find::has_serial(&self.live, peer) || find::has_serial(&self.dying, peer)
     }
@@ -127,7 +129,7 @@ impl Peers {
     /// One act that isn't a release, at the moment `now`.
     pub fn act(&mut self, now: u32, act: &Act) -> Result<Outcome, Memory>
         requires { is_release act.now ≡ false }
-        ensures ok { IfOk result (λ o. outcome self.new o.reply o.note o.first o.second ≡ model.act_step self.old now act.now) }
+        ensures ok { IfOk result (λ o. outcome self.new o ≡ model.act_step self.old now act.now) }
         ensures kept { IfOk result (λ o. o.kept ≡ o.reply) }
         ensures more { OnOk result (unreleased self.new ≤ unreleased self.old + 2) }
         ensures err { OnErr result (self.new ≡ self.old) }
@@ -156,7 +158,7 @@ impl Peers {
 
     /// A refusal changes nothing but the moment.
     fn refuse(&mut self, now: u32, errno: Errno) -> Outcome
-        ensures value { outcome self.new result.reply result.note result.first result.second ≡ model.refused self.old now errno }
+        ensures value { outcome self.new result ≡ model.refused self.old now errno }
         ensures kept { result.kept ≡ result.reply }
         ensures same { unreleased self.new ≡ unreleased self.old }
     {

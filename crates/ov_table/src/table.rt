@@ -106,8 +106,10 @@ impl Table {
     // The step that lets a dying peer go. The room for its entry was reserved while the peer was live.
     fn release(&mut self, place: Place, at: u32, serial: u32) -> Reply
         requires { May self.old.now (record { at = at; act = act.Released serial }) }
-        ensures reply { result ≡ (step self.old.now (record { at = at; act = act.Released serial })).reply }
-        ensures stepped { self.new ≡ stepped self.old place (record { at = at; act = act.Released serial }) }
+        ensures reply { result ≡
+            (step self.old.now (record { at = at; act = act.Released serial })).reply }
+        ensures stepped { self.new ≡
+            stepped self.old place (record { at = at; act = act.Released serial }) }
     {
         let now = self.peers.moment_at(at);
         self.peers.release(now, serial);
@@ -129,8 +131,10 @@ impl Table {
     // The step that lets a retired key go. The room for its entry was reserved by the step that retired it.
     fn release_key(&mut self, place: Place, at: u32, serial: u32) -> Reply
         requires { May self.old.now (record { at = at; act = act.KeyReleased serial }) }
-        ensures reply { result ≡ (step self.old.now (record { at = at; act = act.KeyReleased serial })).reply }
-        ensures stepped { self.new ≡ stepped self.old place (record { at = at; act = act.KeyReleased serial }) }
+        ensures reply { result ≡
+            (step self.old.now (record { at = at; act = act.KeyReleased serial })).reply }
+        ensures stepped { self.new ≡
+            stepped self.old place (record { at = at; act = act.KeyReleased serial }) }
     {
         let now = self.peers.moment_at(at);
         self.peers.release_key(now, serial);
@@ -203,7 +207,12 @@ impl Table {
     pub fn finish(self) -> (ListOf<Entry>, ListOf<Note>)
         ensures journal { result.0 ≡ self.journal }
         ensures notes { result.1 ≡ self.notes }
-        ensures told { IsTold (record { now = self.now; journal = result.0; notes = result.1; taken = self.taken }) }
+        ensures told { IsTold (record {
+          now = self.now;
+          journal = result.0;
+          notes = result.1;
+          taken = self.taken;
+        }) }
     {
         let Table { journal, notes, .. } = self;
         (ListOf::of_vec(journal), ListOf::of_vec(notes))

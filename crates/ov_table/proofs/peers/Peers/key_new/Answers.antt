@@ -13,5 +13,5 @@ returns-clause-ok c =
     let place : position (has_id c.args.conf.now.peer) c.args.self.now.live ≡ Some c.in-Some.place = search rules in
     let first = first_at (has_id c.args.conf.now.peer) c.args.self.now.live c.in-Some.place place in
     rw (key_new_as c.args.self.now c.args.now c.in-Some.place c.args.conf.now place)
-    (ok_at (λ o p. outcome c.key_new_at.new.self o.reply o.note o.first o.second ≡ key_put c.args.self.now c.args.now c.args.conf.now c.in-Some.place p)
+    (ok_at (λ o p. outcome c.key_new_at.new.self o ≡ key_put c.args.self.now c.args.now c.args.conf.now c.in-Some.place p)
     c.args.self.now.live c.in-Some.place first.item c.key_new_at.result first.at c.key_new_at.ensures.ok)

@@ -15,5 +15,5 @@ returns-clause-ok c =
     let place : position (has_id c.args.id) c.args.self.now.live ≡ Some c.in-Some.place = search rules in
     let first = first_at (has_id c.args.id) c.args.self.now.live c.in-Some.place place in
     rw (removed_as c.args.self.now c.args.now c.in-Some.place c.args.id c.args.reason place)
-    (ok_at (λ o p. outcome c.remove_at.new.self o.reply o.note o.first o.second ≡ model.removals c.args.self.now c.args.now c.args.reason (p ∷ []) (remove c.args.self.now.live c.in-Some.place) (reply.Removed (p.serial ∷ [])))
+    (ok_at (λ o p. outcome c.remove_at.new.self o ≡ model.removals c.args.self.now c.args.now c.args.reason (p ∷ []) (remove c.args.self.now.live c.in-Some.place) (reply.Removed (p.serial ∷ [])))
     c.args.self.now.live c.in-Some.place first.item c.remove_at.result first.at c.remove_at.ensures.ok)

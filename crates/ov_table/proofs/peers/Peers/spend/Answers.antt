@@ -13,5 +13,5 @@ returns-clause-ok c =
     let place : position (has_serial c.args.peer) c.args.self.now.live ≡ Some c.in-Some.place = search rules in
     let first = first_at (has_serial c.args.peer) c.args.self.now.live c.in-Some.place place in
     rw (spent_as c.args.self.now c.args.now c.args.peer c.args.key c.in-Some.place place)
-    (ok_at (λ o p. outcome c.spend_at.new.self o.reply o.note o.first o.second ≡ spent_of c.args.self.now c.args.now c.in-Some.place c.args.key p)
+    (ok_at (λ o p. outcome c.spend_at.new.self o ≡ spent_of c.args.self.now c.args.now c.in-Some.place c.args.key p)
     c.args.self.now.live c.in-Some.place first.item c.spend_at.result first.at c.spend_at.ensures.ok)

@@ -1,0 +1,188 @@
+-- Worked examples of the definitions, each computed from them: the replay rule at its edges, a datagram as a
+-- client of OpenVPN sends it, inner packets, the messages of the netlink family, and the peer table's refusals.
+-- The datagram's bytes are those that another implementation of AES-GCM makes of the same key and packet.
+use Rattle.std.specs.Prelude.{ℕ, ◌≡◌, List, [], ◌∷◌, Bool, true, false, Option, Some, None, Result, Ok, Err, ◌==◌, replicate}
+use Rattle.ov_aes.specs.declared.key_bytes.KeyBytes.TheVariants.{K16}
+use Rattle.ov_base.specs.declared.address.Addr.TheVariants.{V4}
+use Rattle.ov_base.specs.declared.address.Transport.{Transport}
+use Rattle.ov_model.specs.declared.ident.PeerId.{PeerId}
+use Rattle.ov_model.specs.declared.ident.KeyId.{KeyId}
+use Rattle.ov_model.specs.declared.act.Act.TheVariants as act
+use Rattle.ov_model.specs.declared.command.Attrs.{Attrs}
+use Rattle.ov_model.specs.declared.command.KeyDir.{KeyDir}
+use Rattle.ov_model.specs.declared.command.Command.{Command}
+use Rattle.ov_model.specs.declared.command.Command.TheVariants as command
+use Rattle.ov_model.specs.declared.command.Reason.TheVariants.{Userspace}
+use Rattle.ov_model.specs.declared.command.Slot.TheVariants.{Primary}
+use Rattle.ov_model.specs.declared.netlink.NlMessage.{NlMessage}
+use Rattle.ov_model.specs.declared.netlink.NlPeer.{NlPeer}
+use Rattle.ov_model.specs.declared.netlink.NlKeyConf.{NlKeyConf}
+use Rattle.ov_model.specs.declared.netlink.NlKeyDir.{NlKeyDir}
+use Rattle.ov_model.specs.declared.netlink.NlOp.{NlOp}
+use Rattle.ov_model.specs.declared.netlink.NlOp.TheVariants as op
+use Rattle.ov_model.specs.declared.netlink.Cipher.{Cipher}
+use Rattle.ov_model.specs.declared.netlink.Cipher.TheVariants.{NoCipher, AesGcm, ChaCha20Poly1305}
+use Rattle.ov_model.specs.declared.reply.Errno.{Errno}
+use Rattle.ov_model.specs.declared.reply.Errno.TheVariants.{NoEntry, Exists, Invalid, NoSpace, NotSupported}
+use Rattle.ov_model.specs.declared.reply.Reply.TheVariants as reply
+use Rattle.ov_model.specs.declared.replay.Verdict.TheVariants.{Accept, Zero, Old, Below, Again}
+use Rattle.ov_model.specs.Checked.{checked}
+use Rattle.ov_model.specs.Ident.{peer_id, key_id}
+use Rattle.ov_model.specs.Packets.{short, data_v1, control, data_v2, head_of, datagram, opened, v4, v6, not_ip, inner_of, ping, kind_of, keepalive}
+use Rattle.ov_model.specs.Replay.{Accepted, verdict_of}
+use Rattle.ov_model.specs.Step.{Outcome, peer_of, hold_of, peer_new, step}
+use Rattle.ov_model.specs.Tables.{Key, Peer, Slots, Table, empty_table}
+
+-- ---- the replay rule
+
+-- The packet id 3000 was accepted at the moment 10.
+abbrev pub one_accepted : List Accepted
+one_accepted = record { id = 3000; moment = 10 } ∷ []
+
+-- The id 5 was accepted at the moment 0 and the id 9 at a later one.
+abbrev pub two_accepted : ℕ → List Accepted
+two_accepted later = record { id = 5; moment = 0 } ∷ record { id = 9; moment = later } ∷ []
+
+pub record WindowExamples : Type 0 where
+  pub first : verdict_of [] 1 0 ≡ Accept
+  pub zero_id : verdict_of one_accepted 0 10 ≡ Zero
+  pub above : verdict_of one_accepted 3001 10 ≡ Accept
+  pub again : verdict_of one_accepted 3000 10 ≡ Again
+  -- 2047 and 2048 below the greatest
+  pub within : verdict_of one_accepted 953 10 ≡ Accept
+  pub past : verdict_of one_accepted 952 10 ≡ Old
+  -- 29 and 30 seconds after the last accept
+  pub before_gap : verdict_of one_accepted 2999 39 ≡ Accept
+  pub after_gap : verdict_of one_accepted 2999 40 ≡ Below
+  -- 29 and 30 seconds between two accepts: what came before the gap is the floor
+  pub no_gap : verdict_of (two_accepted 29) 4 29 ≡ Accept
+  pub gap : verdict_of (two_accepted 30) 4 30 ≡ Below
+  pub over_the_gap : verdict_of (two_accepted 30) 7 30 ≡ Accept
+
+-- ---- datagrams and packets
+
+-- The direction of a key: the bytes 0 to 15, and the tail 16 to 23.
+abbrev pub example_dir : KeyDir
+example_dir = record { key = K16 (0 ∷ 1 ∷ 2 ∷ 3 ∷ 4 ∷ 5 ∷ 6 ∷ 7 ∷ 8 ∷ 9 ∷ 10 ∷ 11 ∷ 12 ∷ 13 ∷ 14 ∷ 15 ∷ []); tail = 16 ∷ 17 ∷ 18 ∷ 19 ∷ 20 ∷ 21 ∷ 22 ∷ 23 ∷ [] }
+
+-- The keepalive message sealed under it for the peer 258, with the key id 2 and the packet id 256.
+abbrev pub example_datagram : List ℕ
+example_datagram = 0x4a ∷ 0x00 ∷ 0x01 ∷ 0x02 ∷ 0x00 ∷ 0x00 ∷ 0x01 ∷ 0x00 ∷ 0x8d ∷ 0x83 ∷ 0xd8 ∷ 0x6d ∷ 0x13 ∷ 0xf2 ∷ 0x9a ∷ 0xa2 ∷ 0x55 ∷ 0xdd ∷ 0x17 ∷ 0xa0 ∷ 0xac ∷ 0x11 ∷ 0x0c ∷ 0x00 ∷ 0x73 ∷ 0x1b ∷ 0xde ∷ 0xd8 ∷ 0x31 ∷ 0x9e ∷ 0x73 ∷ 0x14 ∷ 0x91 ∷ 0x13 ∷ 0xff ∷ 0xb0 ∷ 0x96 ∷ 0xc0 ∷ 0x20 ∷ 0xa9 ∷ []
+
+-- The same with the last bit of the tag, and with the last bit of the packet id, turned over.
+abbrev pub other_tag : List ℕ
+other_tag = 0x4a ∷ 0x00 ∷ 0x01 ∷ 0x02 ∷ 0x00 ∷ 0x00 ∷ 0x01 ∷ 0x00 ∷ 0x8d ∷ 0x83 ∷ 0xd8 ∷ 0x6d ∷ 0x13 ∷ 0xf2 ∷ 0x9a ∷ 0xa2 ∷ 0x55 ∷ 0xdd ∷ 0x17 ∷ 0xa0 ∷ 0xac ∷ 0x11 ∷ 0x0c ∷ 0x01 ∷ 0x73 ∷ 0x1b ∷ 0xde ∷ 0xd8 ∷ 0x31 ∷ 0x9e ∷ 0x73 ∷ 0x14 ∷ 0x91 ∷ 0x13 ∷ 0xff ∷ 0xb0 ∷ 0x96 ∷ 0xc0 ∷ 0x20 ∷ 0xa9 ∷ []
+
+abbrev pub other_id : List ℕ
+other_id = 0x4a ∷ 0x00 ∷ 0x01 ∷ 0x02 ∷ 0x00 ∷ 0x00 ∷ 0x01 ∷ 0x01 ∷ 0x8d ∷ 0x83 ∷ 0xd8 ∷ 0x6d ∷ 0x13 ∷ 0xf2 ∷ 0x9a ∷ 0xa2 ∷ 0x55 ∷ 0xdd ∷ 0x17 ∷ 0xa0 ∷ 0xac ∷ 0x11 ∷ 0x0c ∷ 0x00 ∷ 0x73 ∷ 0x1b ∷ 0xde ∷ 0xd8 ∷ 0x31 ∷ 0x9e ∷ 0x73 ∷ 0x14 ∷ 0x91 ∷ 0x13 ∷ 0xff ∷ 0xb0 ∷ 0x96 ∷ 0xc0 ∷ 0x20 ∷ 0xa9 ∷ []
+
+pub record DatagramExamples : Type 0 where
+  pub head : head_of example_datagram ≡ data_v2 258 2 256
+  -- the opcodes 6 and 7, a head that is cut short, and one without the whole of its tag
+  pub first_version : head_of (0x30 ∷ 0 ∷ 0 ∷ 0 ∷ []) ≡ data_v1
+  pub of_control : head_of (0x38 ∷ 0 ∷ 0 ∷ 0 ∷ []) ≡ control
+  pub cut : head_of (0x4a ∷ 0 ∷ 1 ∷ []) ≡ short
+  pub no_tag : head_of (0x4a ∷ 0x00 ∷ 0x01 ∷ 0x02 ∷ 0x00 ∷ 0x00 ∷ 0x01 ∷ 0x00 ∷ 0x00 ∷ 0x00 ∷ 0x00 ∷ 0x00 ∷ 0x00 ∷ 0x00 ∷ 0x00 ∷ 0x00 ∷ 0x00 ∷ 0x00 ∷ 0x00 ∷ 0x00 ∷ 0x00 ∷ 0x00 ∷ 0x00 ∷ []) ≡ short
+  pub sealed : datagram 258 2 256 (0 ∷ 1 ∷ 2 ∷ 3 ∷ 4 ∷ 5 ∷ 6 ∷ 7 ∷ 8 ∷ 9 ∷ 10 ∷ 11 ∷ 12 ∷ 13 ∷ 14 ∷ 15 ∷ []) (16 ∷ 17 ∷ 18 ∷ 19 ∷ 20 ∷ 21 ∷ 22 ∷ 23 ∷ []) keepalive ≡ example_datagram
+  pub opens : opened example_dir example_datagram ≡ Some keepalive
+  pub wrong_tag : opened example_dir other_tag ≡ None
+  pub wrong_id : opened example_dir other_id ≡ None
+
+-- A packet of IPv4 from 10.8.0.5 to 10.8.0.1, and one of IPv6 from fd00::5 to fd00::1.
+abbrev pub packet_v4 : List ℕ
+packet_v4 = 69 ∷ 0 ∷ 0 ∷ 20 ∷ 0 ∷ 0 ∷ 0 ∷ 0 ∷ 0 ∷ 0 ∷ 0 ∷ 0 ∷ 10 ∷ 8 ∷ 0 ∷ 5 ∷ 10 ∷ 8 ∷ 0 ∷ 1 ∷ []
+
+abbrev pub packet_v6 : List ℕ
+packet_v6 = 96 ∷ 0 ∷ 0 ∷ 0 ∷ 0 ∷ 0 ∷ 0 ∷ 0 ∷ 253 ∷ 0 ∷ 0 ∷ 0 ∷ 0 ∷ 0 ∷ 0 ∷ 0 ∷ 0 ∷ 0 ∷ 0 ∷ 0 ∷ 0 ∷ 0 ∷ 0 ∷ 5 ∷ 253 ∷ 0 ∷ 0 ∷ 0 ∷ 0 ∷ 0 ∷ 0 ∷ 0 ∷ 0 ∷ 0 ∷ 0 ∷ 0 ∷ 0 ∷ 0 ∷ 0 ∷ 1 ∷ []
+
+pub record InnerExamples : Type 0 where
+  pub of_v4 : inner_of packet_v4 ≡ v4 (10 ∷ 8 ∷ 0 ∷ 5 ∷ []) (10 ∷ 8 ∷ 0 ∷ 1 ∷ [])
+  pub of_v6 : inner_of packet_v6 ≡ v6 (253 ∷ 0 ∷ 0 ∷ 0 ∷ 0 ∷ 0 ∷ 0 ∷ 0 ∷ 0 ∷ 0 ∷ 0 ∷ 0 ∷ 0 ∷ 0 ∷ 0 ∷ 5 ∷ []) (253 ∷ 0 ∷ 0 ∷ 0 ∷ 0 ∷ 0 ∷ 0 ∷ 0 ∷ 0 ∷ 0 ∷ 0 ∷ 0 ∷ 0 ∷ 0 ∷ 0 ∷ 1 ∷ [])
+  -- headers that are a byte short
+  pub short_v4 : inner_of (69 ∷ 0 ∷ 0 ∷ 20 ∷ 0 ∷ 0 ∷ 0 ∷ 0 ∷ 0 ∷ 0 ∷ 0 ∷ 0 ∷ 10 ∷ 8 ∷ 0 ∷ 5 ∷ 10 ∷ 8 ∷ 0 ∷ []) ≡ not_ip
+  pub short_v6 : inner_of (96 ∷ 0 ∷ 0 ∷ 0 ∷ 0 ∷ 0 ∷ 0 ∷ 0 ∷ 253 ∷ 0 ∷ 0 ∷ 0 ∷ 0 ∷ 0 ∷ 0 ∷ 0 ∷ 0 ∷ 0 ∷ 0 ∷ 0 ∷ 0 ∷ 0 ∷ 0 ∷ 5 ∷ 253 ∷ 0 ∷ 0 ∷ 0 ∷ 0 ∷ 0 ∷ 0 ∷ 0 ∷ 0 ∷ 0 ∷ 0 ∷ 0 ∷ 0 ∷ 0 ∷ 0 ∷ []) ≡ not_ip
+  pub message : keepalive ≡ 42 ∷ 24 ∷ 123 ∷ 243 ∷ 100 ∷ 30 ∷ 180 ∷ 203 ∷ 7 ∷ 237 ∷ 45 ∷ 10 ∷ 152 ∷ 31 ∷ 199 ∷ 72 ∷ []
+  pub of_ping : kind_of keepalive ≡ ping
+
+-- ---- messages
+
+abbrev pub no_attributes : NlPeer
+no_attributes = record { id = None; remote_ipv4 = None; remote_ipv6 = None; remote_ipv6_scope_id = None; remote_port = None; socket = None; socket_netnsid = None; vpn_ipv4 = None; vpn_ipv6 = None; local_ipv4 = None; local_ipv6 = None; local_port = None; keepalive_interval = None; keepalive_timeout = None }
+
+abbrev pub of_peer : NlOp → NlPeer → NlMessage
+of_peer o p = record { op = o; ifindex = None; peer = Some p; keyconf = None }
+
+-- The peer 5 at 192.0.2.5, port 1194, with the address 10.8.0.5 inside the tunnel.
+abbrev pub peer_5 : NlPeer
+peer_5 = record no_attributes { id = Some 5; remote_ipv4 = Some (192 ∷ 0 ∷ 2 ∷ 5 ∷ []); remote_port = Some 1194; vpn_ipv4 = Some (10 ∷ 8 ∷ 0 ∷ 5 ∷ []) }
+
+abbrev pub transport_5 : Transport
+transport_5 = record { addr = V4 (192 ∷ 0 ∷ 2 ∷ 5 ∷ []); port = 1194 }
+
+abbrev pub attrs_5 : PeerId → Attrs
+attrs_5 id = record { id = id; remote = Some transport_5; vpn4 = Some (10 ∷ 8 ∷ 0 ∷ 5 ∷ []); vpn6 = None; keepalive = None }
+
+-- Its primary key with the key id 2, of a cipher, with keys of some bytes.
+abbrev pub of_key : Cipher → ℕ → NlMessage
+of_key c long =
+    let d : NlKeyDir = record { cipher_key = Some (replicate long 7); nonce_tail = Some (replicate 8 9) } in
+    record { op = op.KeyNew; ifindex = None; peer = None; keyconf = Some (record { peer_id = Some 5; slot = Some Primary; key_id = Some 2; cipher = Some c; encrypt = Some d; decrypt = Some d }) }
+
+abbrev pub dir_5 : KeyDir
+dir_5 = record { key = K16 (replicate 16 7); tail = replicate 8 9 }
+
+pub record MessageExamples (id : PeerId) (key : KeyId) : Type 0 where
+  pub peer_new : checked (of_peer op.PeerNew peer_5) ≡ Ok (command.PeerNew (attrs_5 id))
+  pub peer_get : checked (of_peer op.PeerGet peer_5) ≡ Ok (command.PeerGet id)
+  pub peer_del : checked (of_peer op.PeerDel peer_5) ≡ Ok (command.Remove id Userspace)
+  pub key_new : checked (of_key AesGcm 16) ≡ Ok (command.KeyNew (record { peer = id; slot = Primary; key_id = key; encrypt = dir_5; decrypt = dir_5 }))
+  -- no id; two remote addresses; a port without an address, and the port 0; half a keepalive
+  pub no_id : checked (of_peer op.PeerDel no_attributes) ≡ Err Invalid
+  pub two_remotes : checked (of_peer op.PeerNew (record peer_5 { remote_ipv6 = Some (replicate 16 1) })) ≡ Err Invalid
+  pub no_address : checked (of_peer op.PeerNew (record peer_5 { remote_ipv4 = None })) ≡ Err Invalid
+  pub port_0 : checked (of_peer op.PeerNew (record peer_5 { remote_port = Some 0 })) ≡ Err Invalid
+  pub half_keepalive : checked (of_peer op.PeerNew (record peer_5 { keepalive_interval = Some 10 })) ≡ Err Invalid
+  -- a key of 15 bytes, and ciphers that aren't taken
+  pub short_key : checked (of_key AesGcm 15) ≡ Err Invalid
+  pub none_cipher : checked (of_key NoCipher 16) ≡ Err NotSupported
+  pub other_cipher : checked (of_key ChaCha20Poly1305 16) ≡ Err NotSupported
+  pub short_key_first : checked (of_key ChaCha20Poly1305 15) ≡ Err Invalid
+
+-- ---- the peer table
+
+-- The peer 5 is live, with two keys, and so many peers were made.
+abbrev pub live_5 : PeerId → Option Key → Option Key → Peer
+live_5 id primary secondary = record (peer_of 0 0 (attrs_5 id) transport_5) { slots = record { primary = primary; secondary = secondary } }
+
+abbrev pub table_5 : PeerId → Option Key → Option Key → ℕ → Table
+table_5 id primary secondary made = record empty_table { live = live_5 id primary secondary ∷ []; made = made }
+
+-- Attributes that share nothing with the peer 5.
+abbrev pub apart : PeerId → Attrs
+apart other = record { id = other; remote = Some (record { addr = V4 (192 ∷ 0 ∷ 2 ∷ 6 ∷ []); port = 1194 }); vpn4 = Some (10 ∷ 8 ∷ 0 ∷ 6 ∷ []); vpn6 = None; keepalive = None }
+
+-- peer-new while the peer 5 is live and 4,096 peers were made: each refusal stands before all that follow it.
+pub record NewExamples (id other : PeerId) : Type 0 where
+  pub no_remote : (peer_new (table_5 id None None 4096) 0 (record (attrs_5 id) { remote = None })).reply ≡ reply.Refused Invalid
+  pub no_vpn : (peer_new (table_5 id None None 4096) 0 (record (attrs_5 id) { vpn4 = None })).reply ≡ reply.Refused Invalid
+  pub id_taken : (peer_new (table_5 id None None 4096) 0 (record (apart other) { id = id })).reply ≡ reply.Refused Exists
+  pub vpn_taken : (peer_new (table_5 id None None 4096) 0 (record (apart other) { vpn4 = Some (10 ∷ 8 ∷ 0 ∷ 5 ∷ []) })).reply ≡ reply.Refused Exists
+  pub remote_taken : (peer_new (table_5 id None None 4096) 0 (record (apart other) { remote = Some transport_5 })).reply ≡ reply.Refused Exists
+  pub no_space : (peer_new (table_5 id None None 4096) 0 (apart other)).reply ≡ reply.Refused NoSpace
+  pub last_one : (peer_new (table_5 id None None 4095) 0 (apart other)).reply ≡ reply.Made 4095
+
+-- The look-ups where both slots hold a key: what is sent takes the primary one, what is received the one with
+-- the key id. A table's moment never falls.
+pub record LookExamples (id : PeerId) (k l : Key) : Type 0 where
+  pub tx : (step (table_5 id (Some k) (Some l) 1) (record { at = 0; act = act.TxLook (V4 (10 ∷ 8 ∷ 0 ∷ 5 ∷ [])) })).reply ≡ reply.Hold (hold_of (live_5 id (Some k) (Some l)) k)
+  pub rx : (step (table_5 id (Some k) (Some l) 1) (record { at = 0; act = act.RxLook id l.key_id transport_5 })).reply ≡ reply.Hold (hold_of (live_5 id (Some k) (Some l)) l)
+  pub nobody : (step (table_5 id (Some k) (Some l) 1) (record { at = 0; act = act.TxLook (V4 (10 ∷ 8 ∷ 0 ∷ 6 ∷ [])) })).reply ≡ reply.NoPeer
+  pub no_key : (step (table_5 id None (Some l) 1) (record { at = 0; act = act.TxLook (V4 (10 ∷ 8 ∷ 0 ∷ 5 ∷ [])) })).reply ≡ reply.NoKey
+  pub earlier : (step (record empty_table { moment = 7 }) (record { at = 5; act = act.Do (command.PeerGet id) })).after.moment ≡ 7
+  pub later : (step (record empty_table { moment = 7 }) (record { at = 9; act = act.Do (command.PeerGet id) })).after.moment ≡ 9
+
+-- The ids that there are: 5 is one, 16777215 the last, and 7 the last key id.
+pub record IdExamples : Type 0 where
+  pub five : (id : PeerId) → peer_id 5 ≡ Some id → id.number ≡ 5
+  pub no_25_bits : peer_id 16777216 ≡ None
+  pub no_4_bits : key_id 8 ≡ None
