@@ -248,3 +248,13 @@ finish_by {w = w} {s = s} r q b k r_is is some none = rw r_is (finished s k (not
 pub none_owed : (os : List Owed) → first_owed os ≡ None → os ≡ []
 none_owed [] e = refl
 none_owed (x ∷ os) e = absurd (let same : ◌≡◌ {A = Option Owed} (Some x) None = e in cc)
+
+-- The stage that was looked at is the walk's.
+pub at_stage : {via : Addr → Addr} {place : Place} {line : Line} {w : View} {s t : Stage} → s ≡ t → Walking via place line w s → Walking via place line w t
+at_stage same k = rw (← same) k
+
+-- A line at its end that owes nothing has no turn.
+pub not_open : {s : Stage} {os : List Owed} {h : HoldView} {u : Use} {a : Answer} → s ≡ stage.PeerGiven h u a → os ≡ [] → IsOpen s os → ⊥
+not_open {s} {os} {h} {u} {a} same none is_open =
+    let P : Stage → List Owed → Type 0 = λ x y. IsOpen x y in
+    subst (λ y. P (stage.PeerGiven h u a) y) none (subst (λ x. P x os) same is_open)

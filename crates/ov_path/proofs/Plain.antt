@@ -1,6 +1,7 @@
 -- What each call makes of the plain desk of the tests.
 use Rattle.std.proofs.Common.{ℕ, ◌≡◌, ◌+◌, ◌≤◌, List, [], ◌∷◌, ◌++◌, refl, sym, ◌∙◌, ap, subst, arith, Bool, true, false}
-use Rattle.std.specs.Prelude.{Option, Some, None}
+use Rattle.std.specs.Prelude.{Option, Some, None, nat_eq, length}
+use Rattle.std.specs.List.{IsDistinct}
 use Rattle.ov_model.specs.declared.act.Act.{Act}
 use Rattle.ov_model.specs.declared.act.Act.TheVariants as act
 use Rattle.ov_model.specs.declared.command.Command.{Command}
@@ -49,6 +50,13 @@ first_joins c x xs = record {
   joins = record { some_keys = []; some_peers = x ∷ []; of_keys = none; of_peers = kept x xs [] (none_of xs); are = refl };
   is = refl;
 }
+
+-- One serial at most differs from all others.
+pub few_differ : (xs : List ℕ) → length xs ≤ 1 → IsDistinct nat_eq xs
+unfolding IsDistinct
+few_differ [] few = tt
+few_differ (x ∷ []) few = (tt, tt)
+few_differ (x ∷ y ∷ xs) few = absurd (omega arith)
 
 -- ---- a draw
 

@@ -32,14 +32,17 @@ pub trait Desk {
     /// The two directions of a key: None, or what the desk has of it, and Some where the key is held and not
     /// used yet. It is lent, not copied.
     fn pair(&self, key: u32) -> Option<&KeyPair>
-        ensures is { (m : Material) → option_copied result ≡ Some m → (view self.now).material key ≡ Some m }
-        ensures some { HoldsKey (view self.now).hold key → IsUnused (stand_of (view self.now).events) → IsSome result };
+        ensures is { (m : Material) → option_copied result ≡ Some m →
+            (view self.now).material key ≡ Some m }
+        ensures some { HoldsKey (view self.now).hold key →
+            IsUnused (stand_of (view self.now).events) → IsSome result };
 
     /// Asks the replay window of a held key about a packet id. At `Memory` it wasn't judged.
     fn replay(&mut self, place: Place, key: u32, id: u32, at: u32) -> Result<Verdict, Memory>
         requires held { HoldsKey (view self.old).hold key }
         requires looked { IsLooked (stand_of (view self.old).events) }
-        ensures ok { IfOk result (λ v. Did view does self.old (judged_at place key id at v) self.new) }
+        ensures ok { IfOk result (λ v.
+            Did view does self.old (judged_at place key id at v) self.new) }
         ensures err { OnErr result (SameLine (view self.old) (view self.new)) };
 
     /// Asks the counter of a held key for a packet id.

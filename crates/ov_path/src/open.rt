@@ -27,7 +27,8 @@ pub fn open(
     requires long { 24 ≤ length datagram.now }
     requires most { length datagram.now ≤ 65560 }
     ensures ok { IfOk result (λ packet. packet ≡ opened pair.now.decrypt datagram.now) }
-    ensures short { IfOk result (λ packet. IfSome packet (λ text. length text ≤ length datagram.now)) }
+    ensures short { IfOk result (λ packet. IfSome packet (λ text.
+        length text ≤ length datagram.now)) }
 {
     let (_, sealed) = datagram.split_at(HEAD_BYTES + TAG_BYTES);
     let mut text = Vec::from_slice(alloc, sealed)?;

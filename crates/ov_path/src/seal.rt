@@ -26,7 +26,8 @@ pub fn seal(
     packet: &[u8],
 ) -> Result<Octets, Memory>
     requires most { length packet.now ≤ 65536 }
-    ensures ok { IfOk result (λ datagram. datagram ≡ sealed_datagram hold.now pair.now id packet.now) }
+    ensures ok { IfOk result (λ datagram. datagram ≡
+        sealed_datagram hold.now pair.now id packet.now) }
 {
     let mut datagram = Vec::from_elem(alloc, 0, FRONT_BYTES + packet.len())?;
     fill(hold, pair, id, packet, datagram.as_mut_slice());

@@ -241,7 +241,9 @@ impl Walk {
         ensures made { OnOk result (Made D.view D.does via self.old.place line.now desk.old desk.new) }
         ensures more { IfOk result (λ r. r ≡ More) }
         ensures err { OnErr result (SameLine (D.view desk.old) (D.view desk.new)) }
-        ensures kept { OnErr result (self.new ≡ record self.old { stage = stage.Judged hold packet }) }
+        ensures kept { OnErr result (self.new ≡ record self.old {
+          stage = stage.Judged hold packet;
+        }) }
         ensures stays { Stays (D.view desk.old) (D.view desk.new) self.old self.new }
     {
         let settled = match settled(desk, self.place, line, &hold, packet.as_slice()) {
@@ -285,8 +287,7 @@ impl Walk {
         answer: Answer,
     ) -> Progress
         ghost via: { Addr → Addr }
-        requires at {
-            Walking via self.old.place line.now (D.view desk.old) (stage.KeyGiven hold made answer) }
+        requires at { Walking via self.old.place line.now (D.view desk.old) (stage.KeyGiven hold made answer) }
         requires none { (D.view desk.old).owing ≡ [] }
         ensures then { Turned via line.now (D.view desk.new) self.new result }
         ensures made { MadeBy D.view D.does via self.old.place line.now result desk.old desk.new }
@@ -357,12 +358,7 @@ fn send<D: Desk>(
 }
 
 /// The key has no packet id left: it is taken out of its slot, where it still stands in one.
-fn spend<D: Desk>(
-    desk: &mut D,
-    place: Place,
-    line: &Line,
-    hold: HoldView,
-) -> Result<Stage, Memory>
+fn spend<D: Desk>(desk: &mut D, place: Place, line: &Line, hold: HoldView) -> Result<Stage, Memory>
     ghost via: { Addr → Addr }
     requires at { Walking via place line.now (D.view desk.old) (stage.Drew hold drawn.Spent) }
     ensures then { IfOk result (λ s. GoesOn via place line.now (D.view desk.new) s) }

@@ -19,8 +19,9 @@ use Rattle.ov_model.specs.Step.{step, may_act, is_there, has_key}
 use Rattle.ov_model.specs.Events.{Event, Stepped}
 use Rattle.ov_model.specs.Next.{see, see_all, stand_of}
 use Rattle.ov_model.proofs.Removing.{serials}
+use Rattle.ov_model.proofs.Tallies.{removed_differ}
 use Rattle.ov_model.specs.Lifetime.{key_made_by}
-use Rattle.ov_path.specs.Desks.{Shown, Holding, NoHold, Both, PeerLeft, IsDrawn, IsJudged, IsSpent, HoldsPeer, HoldsKey, MayCall, Called, Joins as JoinsOwed, IsReplyOf, HasMaterial, Grows, held_after, stepped_as}
+use Rattle.ov_path.specs.Desks.{Holding, NoHold, Both, PeerLeft, IsDrawn, IsJudged, IsSpent, HoldsPeer, HoldsKey, MayCall, Called, Joins as JoinsOwed, IsReplyOf, HasMaterial, Grows, held_after, stepped_as}
 use Rattle.ov_table.specs.Recorded.{stepped, entry_of, is_release}
 use Rattle.ov_table.proofs.Told.{told_step}
 use Rattle.ov_serial.specs.declared.past.Mark.TheVariants as mark
@@ -149,9 +150,11 @@ may_call d (act.KeyReleased key) sound may = absurd may
 
 -- All that a step of the table is to leave.
 pub record CallDone (d : Serial) (place : Place) (call : Call) (r : Reply) : Type 0 where
-  pub called : Called (λ e f. Happened d e f) (shown_of d) place call r (material_of_desk (after_step d place call r)) (shown_of (after_step d place call r)) (after_step d place call r)
+  pub called : Called shown_of Happened d place call r (after_step d place call r)
   pub sound : Sound (after_step d place call r)
-  pub grows : Grows (material_of_desk d) (material_of_desk (after_step d place call r))
+
+pub called_at : {d0 d e f : Serial} {place : Place} {call : Call} {r : Reply} → d ≡ d0 → f ≡ e → Called shown_of Happened d place call r e → Called shown_of Happened d0 place call r f
+called_at same is called = rw (← same, is) called
 
 pub same_next : (d : Serial) (place : Place) (call : Call) (r : Reply) → SameNext d (after_step d place call r)
 same_next d place call r = λ key. get_or_more d.next (key_made_by call.act r) key d.first
@@ -180,8 +183,7 @@ step_done d place call r joined sound may reply_is fits joins has owing few held
     let events : (shown_of e).events ≡ (shown_of d).events ++ Stepped (step_made d.table place call) ∷ [] = events_stepped d place call r sound in
     let same : Stepped (step_made d.table place call) ≡ stepped_as place call r taken = rw reply_is refl in
     let events_are : (shown_of e).events ≡ (shown_of d).events ++ stepped_as place call r taken ∷ [] = events ∙ ap (λ x. (shown_of d).events ++ x ∷ []) same in
-    let P : List Event → List Owed → Shown = λ x y. record { events = x; hold = held_after d.hold call.act r; owing = y } in
-    let shown_is : shown_of e ≡ P ((shown_of d).events ++ stepped_as place call r taken ∷ []) ((shown_of d).owing ++ joined) = ap (λ x. P x (shown_of e).owing) events_are ∙ ap (λ y. P ((shown_of d).events ++ stepped_as place call r taken ∷ []) y) owing in
+    let differ = removed_differ d.table.journal call sound.told.run in
     let made : Happened d (Stepped (step_made d.table place call)) e = record {
       makes = record { may = may; step_is = refl; table = refl; shards = refl; next = same_next d place call r; dry = dry };
       room = room;
@@ -198,8 +200,9 @@ step_done d place call r joined sound may reply_is fits joins has owing few held
         joined = joined;
         fits = fits;
         joins = joins;
+        apart = rw (reply_is, ← sound.told.last) differ;
         has = has;
-        new_is = shown_is;
+        leaves = record { events = events_are; hold_is = refl; owing_is = owing; grows = material_grows d place call r; hops = tt };
         done = subst (λ (x : Event). Happened d x e) same made;
       };
       sound = record {
@@ -213,5 +216,4 @@ step_done d place call r joined sound may reply_is fits joins has owing few held
         spare = omega arith;
         held = held;
       };
-      grows = material_grows d place call r;
     }

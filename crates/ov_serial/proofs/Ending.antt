@@ -17,9 +17,13 @@ use Rattle.ov_model.specs.Events.{Event, Stepped, Judged, Drew, GaveKey, GavePee
 use Rattle.ov_model.specs.Next.{Ask, Table, request, asks, next, next_owing, release_act, see, judged_used, stand_of}
 use Rattle.ov_path.specs.declared.walk.Progress.{Progress}
 use Rattle.ov_path.specs.declared.walk.Progress.TheVariants.{More, Answered}
+use Rattle.ov_path.specs.declared.stage.Stage.{Stage}
+use Rattle.ov_path.specs.declared.stage.Stage.TheVariants as stage
+use Rattle.ov_path.specs.Desks.{View}
+use Rattle.ov_path.specs.Stages.{stand_at}
 use Rattle.ov_path.specs.Walks.{Walking, Made, made, nothing, MadeBy, Progressed, Trail}
 use Rattle.ov_table.specs.Recorded.{is_release}
-use Rattle.ov_serial.specs.Desks.{Serial, Sound, Happened, RoomAfter, RoomGoes, shown_of, material_of_desk, itself, after_begin}
+use Rattle.ov_serial.specs.Desks.{Serial, Sound, Happened, RoomAfter, RoomGoes, shown_of, itself, after_begin}
 use Rattle.ov_serial.specs.Lines.{Since, Rested}
 use Rattle.ov_serial.specs.Running.{stages_left, turns_left, Turned, RanAt, Between}
 use Rattle.ov_serial.proofs.Calling.{seen}
@@ -87,46 +91,44 @@ room_most (Drew key r) was now goes = omega arith
 room_most (GaveKey key g) was now goes = omega arith
 room_most (GavePeer peer g) was now goes = omega arith
 
-stage_less : (old now : ℕ → Option Material) (place : Place) (line : Line) (s t : Stand) (es : List Event) (event : Event) (os ps : List Owed) (a b : Option Answer) → Trail old itself place line s es ps a → Trail now itself place line t (es ++ event ∷ []) os b → see s event ≡ t → request event ≡ asks itself now line.deed s → stages_left t + 1 ≤ stages_left s
-stage_less old now place line stand.Fresh t es event os ps a b was trail is asked = fresh_later now place line es event os b t trail
-stage_less old now place line stand.Replied t es event os ps a b was trail is asked = absurd (never_over event asked)
-stage_less old now place line stand.Missed t es event os ps a b was trail is asked = absurd (never_over event asked)
-stage_less old now place line (stand.PeerGiven h u) t es event os ps a b was trail is asked = absurd (never_over event asked)
-stage_less old now place line (stand.Looked h) t es event os ps a b was trail is asked = rw (← is) (looked_later (now h.key) h line.deed event asked)
-stage_less old now place line (stand.Drew h r) t es event os ps a b was trail is asked = rw (← is) (drawn_asks h r line.deed event asked)
-stage_less old now place line (stand.Judged h) t es event os ps a b was trail is asked = judged_later now old place line h es event os ps b a t was is trail
-stage_less old now place line (stand.Used h u) t es event os ps a b was trail is asked = rw (← is) (used_later h u event asked)
-stage_less old now place line (stand.KeyGiven h u) t es event os ps a b was trail is asked = rw (← is) (given_later h u event asked)
+stage_less : (place : Place) (line : Line) (v w : View) (s t : Stage) (event : Event) → Trail itself place line v s → w.events ≡ v.events ++ event ∷ [] → Trail itself place line w t → see (stand_at s) event ≡ stand_at t → request event ≡ asks itself w.material line.deed (stand_at s) → stages_left (stand_at t) + 1 ≤ stages_left (stand_at s)
+stage_less place line v w stage.Fresh t event was one trail is asked = fresh_later place line w v.events event t one trail
+stage_less place line v w (stage.Replied a) t event was one trail is asked = absurd (never_over event asked)
+stage_less place line v w (stage.PeerGiven h u a) t event was one trail is asked = absurd (never_over event asked)
+stage_less place line v w (stage.Looked h p) t event was one trail is asked = rw (← is) (looked_later (w.material h.key) h line.deed event asked)
+stage_less place line v w (stage.Drew h r) t event was one trail is asked = rw (← is) (drawn_asks h r line.deed event asked)
+stage_less place line v w (stage.Judged h packet) t event was one trail is asked = judged_later place line v w h packet event t was is one trail
+stage_less place line v w (stage.Used h u a) t event was one trail is asked = rw (← is) (used_later h u event asked)
+stage_less place line v w (stage.KeyGiven h u a) t event was one trail is asked = rw (← is) (given_later h u event asked)
 
 less_by : (event : Event) (stage later was now : ℕ) → RoomGoes event was now → later + 1 ≤ stage → 9 * later + now + 1 ≤ 9 * stage + was
 less_by event stage later was now goes less = let most = room_most event was now goes in omega arith
 
-event_less : (d e : Serial) (place : Place) (line : Line) (s t : Stand) (a b : Option Answer) (event : Event) (ps : List Owed) → (shown_of d).owing ≡ ps → Trail (material_of_desk d) itself place line s (shown_of d).events (shown_of d).owing a → Trail (material_of_desk e) itself place line t ((shown_of d).events ++ event ∷ []) (shown_of e).owing b → see s event ≡ t → request event ≡ next_owing itself (material_of_desk e) line.deed s ps → RoomGoes event d.room e.room → turns_left e t + 1 ≤ turns_left d s
-event_less d e place line s t a b event [] none was now is asked room =
-    less_by event (stages_left s) (stages_left t) d.room e.room room (stage_less (material_of_desk d) (material_of_desk e) place line s t (shown_of d).events event (shown_of e).owing (shown_of d).owing a b was now is asked)
-event_less d e place line s t a b event (o ∷ os) some was now is asked room = rw (← is) (release_less event o s d.room e.room asked room)
+event_less : (d e : Serial) (place : Place) (line : Line) (s t : Stage) (event : Event) (ps : List Owed) → Trail itself place line (shown_of d) s → (shown_of e).events ≡ (shown_of d).events ++ event ∷ [] → Trail itself place line (shown_of e) t → see (stand_at s) event ≡ stand_at t → request event ≡ next_owing itself (shown_of e).material line.deed (stand_at s) ps → RoomGoes event d.room e.room → turns_left e (stand_at t) + 1 ≤ turns_left d (stand_at s)
+event_less d e place line s t event [] was one now is asked room =
+    less_by event (stages_left (stand_at s)) (stages_left (stand_at t)) d.room e.room room (stage_less place line (shown_of d) (shown_of e) s t event was one now is asked)
+event_less d e place line s t event (o ∷ os) was one now is asked room = rw (← is) (release_less event o (stand_at s) d.room e.room asked room)
 
-pub turn_less : (d e : Serial) (place : Place) (line : Line) (s t : Stand) (a b : Option Answer) → Walking (material_of_desk d) itself place line (shown_of d) s a → Walking (material_of_desk e) itself place line (shown_of e) t b → Made (λ x f. Happened d x f) (next itself (material_of_desk e) line (shown_of d).events (shown_of d).owing) (shown_of d) (shown_of e) e → turns_left e t + 1 ≤ turns_left d s
-turn_less d e place line s t a b was now by =
-    let trail : Trail (material_of_desk e) itself place line t ((shown_of d).events ++ by.event ∷ []) (shown_of e).owing b = subst (λ es. Trail (material_of_desk e) itself place line t es (shown_of e).owing b) by.one now.trail in
-    let is : see s by.event ≡ t = sym (seen (shown_of d).events by.event s was.stand) ∙ ap stand_of (sym by.one) ∙ now.stand in
-    let asked : request by.event ≡ next_owing itself (material_of_desk e) line.deed s (shown_of d).owing = by.asks ∙ ap (λ x. next_owing itself (material_of_desk e) line.deed x (shown_of d).owing) was.stand in
-    event_less d e place line s t a b by.event (shown_of d).owing refl was.trail trail is asked by.done.room
+turn_less : (d e : Serial) (place : Place) (line : Line) (s t : Stage) → Walking itself place line (shown_of d) s → Walking itself place line (shown_of e) t → Made shown_of Happened itself place line d e → turns_left e (stand_at t) + 1 ≤ turns_left d (stand_at s)
+turn_less d e place line s t was now by =
+    let is : see (stand_at s) by.event ≡ stand_at t = sym (seen (shown_of d).events by.event (stand_at s) was.stand) ∙ ap stand_of (sym by.one) ∙ now.stand in
+    let asked : request by.event ≡ next_owing itself (shown_of e).material line.deed (stand_at s) (shown_of d).owing = by.asks ∙ ap (λ x. next_owing itself (shown_of e).material line.deed x (shown_of d).owing) was.stand in
+    event_less d e place line s t by.event (shown_of d).owing was.trail by.one now.trail is asked by.done.room
 
 -- What happened since the line began, after one more event.
-pub since_made : (d0 d e : Serial) (ask : Ask) → Since d0 d (shown_of d).events → Made (λ x f. Happened d x f) ask (shown_of d) (shown_of e) e → Sound e → Since d0 e (shown_of e).events
-since_made d0 d e ask since by sound = since_shown d0 d e by.event since by.one by.done (none_over e sound)
+since_made : (d0 d e : Serial) (place : Place) (line : Line) → Since d0 d (shown_of d).events → Made shown_of Happened itself place line d e → Sound e → Since d0 e (shown_of e).events
+since_made d0 d e place line since by sound = since_shown d0 d e by.event since by.one by.done (none_over e sound)
 
 -- A turn by what it answered.
-pub turned : (d e : Serial) (place : Place) (line : Line) (s t : Stand) (a b : Option Answer) (r : Progress) → Walking (material_of_desk d) itself place line (shown_of d) s a → Progressed (material_of_desk e) itself place line (shown_of e) t b r → MadeBy r (λ x f. Happened d x f) (next itself (material_of_desk e) line (shown_of d).events (shown_of d).owing) (shown_of d) (shown_of e) d e → Sound e → Turned d e place line s t b r
-turned d e place line s t a b More was now by sound = record {
+pub turned : (d e : Serial) (place : Place) (line : Line) (s t : Stage) (r : Progress) → Walking itself place line (shown_of d) s → Progressed itself place line (shown_of e) t r → MadeBy shown_of Happened itself place line r d e → Sound e → Turned d e place line s t r
+turned d e place line s t More was now by sound = record {
   walking = now.0;
   is_open = now.1;
-  since = λ d0 since. since_made d0 d e _ since by sound;
-  fewer = turn_less d e place line s t a b was now.0 by;
+  since = λ d0 since. since_made d0 d e place line since by sound;
+  fewer = turn_less d e place line s t was now.0 by;
 }
-turned d e place line s t a b (Answered x) was now (made m) sound = record { over = now; since = λ d0 since. since_made d0 d e _ since m sound }
-turned d e place line s t a b (Answered x) was now (nothing nil same) sound = record { over = now; since = λ d0 since. subst (λ (f : Serial). Since d0 f (shown_of f).events) (sym same) since }
+turned d e place line s t (Answered x) was now (made m) sound = record { over = now; since = λ d0 since. since_made d0 d e place line since m sound }
+turned d e place line s t (Answered x) was now (nothing nil same) sound = record { over = now; since = λ d0 since. subst (λ (f : Serial). Since d0 f (shown_of f).events) (sym same) since }
 
 -- One more line was run and answered.
 pub line_more : (d0 d e : Serial) (lines : List Line) (answers : List Answer) (n : ℕ) (line : Line) (a : Answer) → Between d0 d lines answers n → slice_get lines n ≡ Some line → RanAt d e (record { lane = 0; line = length answers }) line a → Sound e → e.first ≡ d.first → Between d0 e lines (answers ++ a ∷ []) (n + 1)

@@ -17,14 +17,15 @@ use Rattle.ov_model.specs.Step.{step, may_act, key_released}
 use Rattle.ov_model.specs.Events.{Event, Stepped, GaveKey, GavePeer, Step, release_of}
 use Rattle.ov_model.specs.Next.{stand_of}
 use Rattle.ov_model.proofs.Removing.{serials, LetsGo, lets_go, LetsKeyGo, lets_key_go}
-use Rattle.ov_path.specs.Desks.{Shown, Holding, NoHold, Both, PeerLeft, HoldsKey, LeftPeer, peer_left, owed_if, first_owed, after_first}
+use Rattle.ov_path.specs.Desks.{IsNew, Did, HopsStay, hold_left, owed_left, Holding, NoHold, Both, PeerLeft, HoldsKey, LeftPeer, peer_left, owed_if, first_owed, after_first}
 use Rattle.ov_table.specs.Recorded.{stepped, entry_of, is_release, first_waiting, waiting_of}
 use Rattle.ov_table.proofs.Told.{told_step}
 use Rattle.ov_serial.specs.declared.past.Mark.{Mark}
 use Rattle.ov_serial.specs.declared.past.Mark.TheVariants as mark
-use Rattle.ov_serial.specs.Desks.{Serial, events_of, shown_of, waiting, owing_of, steps_marked, debt, killed_by, IsHeldSound, Sound, Happened, SpentIsDry, RoomAfter, step_made, owed_by, given_where, after_key, after_peer, release_call, after_release, after_begin}
+use Rattle.ov_serial.specs.Desks.{Serial, events_of, shown_of, waiting, owing_of, steps_marked, debt, killed_by, IsHeldSound, Sound, Happened, SpentIsDry, RoomAfter, step_made, owed_by, given_where, after_key, after_peer, release_call, after_release, after_begin, itself}
 use Rattle.ov_serial.proofs.Marks.{shown_stepped, shown_marked, marked_step, marked_other}
-use Rattle.ov_serial.proofs.Marking.{MarkDone, shown_by}
+use Rattle.ov_serial.proofs.Marking.{MarkDone}
+use Rattle.ov_serial.proofs.Resting.{key_of_more}
 use Rattle.ov_serial.proofs.Acts.{keys_made_by}
 
 -- ---- what waits
@@ -50,14 +51,15 @@ abbrev given_back : Serial → Mark → Holding → Serial
 given_back d m hold = record d { hold = hold; marks = d.marks ++ m ∷ []; room = d.room - 1 }
 
 -- A give-back adds to what is owed, and takes at least one mark off those that may still come.
-record Leaves (d : Serial) (hold left : Holding) (s : Stand) (owes : List Owed) : Type 0 where
+record Left (d : Serial) (hold left : Holding) (s : Stand) (owes : List Owed) : Type 0 where
   owing : owing_of left d.table.now ≡ owing_of hold d.table.now ++ owes
   spare : (after : Stand) → debt left after + length (owing_of left d.table.now) + 1 ≤ debt hold s + length (owing_of hold d.table.now)
   held : (e : Serial) (after : Stand) → e.table ≡ d.table → IsHeldSound e left after
 
-given_done : (d : Serial) (m : Mark) (event : Event) (left : Holding) (owes : List Owed) → Sound d → events_of (m ∷ []) [] ≡ event ∷ [] → steps_marked (m ∷ []) ≡ 0 → ((d.room - 1) + 1 ≡ d.room → Happened d event (given_back d m left)) → Leaves d d.hold left (stand_of (shown_of d).events) owes
-    → MarkDone d (given_back d m left) event left ((shown_of d).owing ++ owes)
-given_done d m event left owes sound is no_step happens leaves =
+given_done : (d : Serial) (m : Mark) (event : Event) (left : Holding) (owes : List Owed) → Sound d → events_of (m ∷ []) [] ≡ event ∷ [] → steps_marked (m ∷ []) ≡ 0 → ((d.room - 1) + 1 ≡ d.room → Happened d event (given_back d m left)) → Left d d.hold left (stand_of (shown_of d).events) owes
+    → hold_left d.hold event ≡ left → owed_left (shown_of d).owing event ≡ (shown_of d).owing ++ owes → HopsStay event itself itself
+    → MarkDone d event (given_back d m left)
+given_done d m event left owes sound is no_step happens leaves hold_is owes_is hops =
     let e : Serial = given_back d m left in
     let s : Stand = stand_of (shown_of d).events in
     let events : (shown_of e).events ≡ (shown_of d).events ++ event ∷ [] = shown_marked d e m event sound.marked refl refl refl is in
@@ -67,8 +69,10 @@ given_done d m event left owes sound is no_step happens leaves =
     let spare : debt d.hold s + length (shown_of d).owing ≤ d.room = sound.spare in
     let fewer : debt left after + length (owing_of left d.table.now) + 1 ≤ debt d.hold s + length (shown_of d).owing = leaves.spare after in
     record {
-      shown_is = shown_by e ((shown_of d).events ++ event ∷ []) ((shown_of d).owing ++ owes) events leaves.owing;
-      done = happens (omega arith);
+      did = record {
+        leaves = record { events = events; hold_is = sym hold_is; owing_is = leaves.owing ∙ sym owes_is; grows = λ k m known. known; hops = hops };
+        done = happens (omega arith);
+      };
       sound = record {
         told = sound.told;
         eight = sound.eight;
@@ -133,7 +137,7 @@ both_debt h (stand.Used v u) = omega arith
 both_debt h (stand.KeyGiven v u) = omega arith
 both_debt h (stand.PeerGiven v u) = omega arith
 
-leaves_key : (d : Serial) (hold : Holding) (s : Stand) (key : ℕ) → IsHeldSound d hold s → HoldsKey hold key → Leaves d hold (peer_left hold) s (owed_if (given_where (first_waiting d.table.now)) (owed.Key key))
+leaves_key : (d : Serial) (hold : Holding) (s : Stand) (key : ℕ) → IsHeldSound d hold s → HoldsKey hold key → Left d hold (peer_left hold) s (owed_if (given_where (first_waiting d.table.now)) (owed.Key key))
 leaves_key d (Both h) s key held names =
     let which : (killed_by h s ≡ []) ⊎ (killed_by h s ≡ key ∷ []) = subst (λ k. (killed_by h s ≡ []) ⊎ (killed_by h s ≡ k ∷ [])) names (killed_which h s) in
     let back : KeyBack d.table.now key = key_waits d.table.now key (killed_by h s) held.killed held.none_dying which in
@@ -143,25 +147,25 @@ leaves_key d (Both h) s key held names =
 leaves_key d NoHold s key held names = absurd names
 leaves_key d (PeerLeft h) s key held names = absurd names
 
-pub key_done : (d : Serial) (key : ℕ) → Sound d → HoldsKey d.hold key → MarkDone d (after_key d key) (GaveKey key (given_where (first_waiting d.table.now))) (peer_left d.hold) ((shown_of d).owing ++ owed_if (given_where (first_waiting d.table.now)) (owed.Key key))
+pub key_done : (d : Serial) (key : ℕ) → Sound d → HoldsKey d.hold key → MarkDone d (GaveKey key (given_where (first_waiting d.table.now))) (after_key d key)
 key_done d key sound names =
     let g : Given = given_where (first_waiting d.table.now) in
     given_done d (mark.GaveKey key g) (GaveKey key g) (peer_left d.hold) (owed_if g (owed.Key key)) sound refl refl
     (λ less. record { makes = record { table = refl; shards = refl; next = λ k. refl }; room = less; first = refl; start = refl })
-    (leaves_key d d.hold (stand_of (shown_of d).events) key sound.held names)
+    (leaves_key d d.hold (stand_of (shown_of d).events) key sound.held names) refl refl refl
 
 -- ---- the peer
 
-leaves_peer : (d : Serial) (hold : Holding) (s : Stand) (peer : ℕ) → LeftPeer hold peer → Leaves d hold NoHold s []
+leaves_peer : (d : Serial) (hold : Holding) (s : Stand) (peer : ℕ) → LeftPeer hold peer → Left d hold NoHold s []
 leaves_peer d (PeerLeft h) s peer names = record { owing = sym (append-nil (waiting d.table.now)); spare = λ after. omega arith; held = λ e after same. tt }
 leaves_peer d NoHold s peer names = absurd names
 leaves_peer d (Both h) s peer names = absurd names
 
-pub peer_done : (d : Serial) (peer : ℕ) → Sound d → LeftPeer d.hold peer → MarkDone d (after_peer d peer) (GavePeer peer given.More) NoHold ((shown_of d).owing ++ [])
+pub peer_done : (d : Serial) (peer : ℕ) → Sound d → LeftPeer d.hold peer → MarkDone d (GavePeer peer given.More) (after_peer d peer)
 peer_done d peer sound names =
     given_done d (mark.GavePeer peer given.More) (GavePeer peer given.More) NoHold [] sound refl refl
     (λ less. record { makes = record { table = refl; shards = refl; next = λ k. refl }; room = less; first = refl; start = refl })
-    (leaves_peer d d.hold (stand_of (shown_of d).events) peer names)
+    (leaves_peer d d.hold (stand_of (shown_of d).events) peer names) refl refl refl
 
 -- ---- a release
 
@@ -251,7 +255,7 @@ release_room : (was now at : ℕ) (o : Owed) → now + 1 ≡ was → RoomAfter (
 release_room was now at (owed.Peer p) less = less
 release_room was now at (owed.Key k) less = less
 
-pub release_done : (d : Serial) (place : Place) (at : ℕ) (o : Owed) → Sound d → first_owed (shown_of d).owing ≡ Some o → MarkDone d (after_release d place at o) (Stepped (release_of place at o)) d.hold (after_first (shown_of d).owing)
+pub release_done : (d : Serial) (place : Place) (at : ℕ) (o : Owed) → Sound d → first_owed (shown_of d).owing ≡ Some o → MarkDone d (Stepped (release_of place at o)) (after_release d place at o)
 release_done d place at o sound is =
     let e : Serial = after_release d place at o in
     let call : Call = release_call at o in
@@ -277,8 +281,10 @@ release_done d place at o sound is =
       start = refl;
     } in
     record {
-      shown_is = shown_by e ((shown_of d).events ++ Stepped (release_of place at o) ∷ []) (after_first (shown_of d).owing) events_are owing;
-      done = subst (λ (x : Step). Happened d (Stepped x) e) releases.step_is made;
+      did = record {
+        leaves = record { events = events_are; hold_is = refl; owing_is = owing; grows = λ key m known. key_of_more d.table.journal _ key m known; hops = tt };
+        done = subst (λ (x : Step). Happened d (Stepped x) e) releases.step_is made;
+      };
       sound = record {
         told = told_step d.table place call releases.may sound.told;
         eight = sound.eight;
@@ -299,15 +305,14 @@ drop_all [] = refl
 drop_all (x ∷ xs) = drop_all xs
 
 pub record Begun (d : Serial) : Type 0 where
-  pub shown_is : shown_of (after_begin d) ≡ record { events = []; hold = NoHold; owing = [] }
+  pub shown_is : IsNew (shown_of (after_begin d))
   pub sound : Sound (after_begin d)
 
 pub begin_done : (d : Serial) → Sound d → d.hold ≡ NoHold → (shown_of d).owing ≡ [] → Begun d
 begin_done d sound free owes =
     let e : Serial = after_begin d in
-    let P : Holding → List Owed → Shown = λ x y. record { events = []; hold = x; owing = y } in
     record {
-      shown_is = ap (λ x. P x (shown_of d).owing) free ∙ ap (λ y. P NoHold y) owes;
+      shown_is = record { events = refl; hold = free; owing = owes };
       sound = record {
         told = sound.told;
         eight = sound.eight;

@@ -16,7 +16,7 @@ use Rattle.ov_model.specs.Events.{Event, Judged, Drew, Judgement}
 use Rattle.ov_model.specs.Next.{see, stand_of}
 use Rattle.ov_model.specs.Replay.{judged}
 use Rattle.ov_replay.specs.History.{History}
-use Rattle.ov_path.specs.Desks.{Shown, Holding, NoHold, Both, PeerLeft, IsLooked, HoldsKey}
+use Rattle.ov_path.specs.Desks.{Did, SameLine, Holding, NoHold, Both, PeerLeft, IsLooked, HoldsKey}
 use Rattle.ov_table.specs.Recorded.{Recorded}
 use Rattle.ov_serial.specs.declared.past.Mark.{Mark}
 use Rattle.ov_serial.specs.declared.past.Mark.TheVariants as mark
@@ -26,15 +26,17 @@ use Rattle.ov_serial.proofs.Marks.{shown_marked, marked_other}
 use Rattle.ov_serial.proofs.Calling.{seen, debt_most}
 
 -- What a call without a step is to leave.
-pub record MarkDone (d e : Serial) (event : Event) (hold : Holding) (owing : List Owed) : Type 0 where
-  pub shown_is : shown_of e ≡ record { events = (shown_of d).events ++ event ∷ []; hold = hold; owing = owing }
-  pub done : Happened d event e
+pub record MarkDone (d : Serial) (event : Event) (e : Serial) : Type 0 where
+  pub did : Did shown_of Happened d event e
   pub sound : Sound e
 
-pub shown_by : (e : Serial) (events : List Event) (owing : List Owed) → (shown_of e).events ≡ events → (shown_of e).owing ≡ owing → shown_of e ≡ record { events = events; hold = e.hold; owing = owing }
-shown_by e events owing same owes =
-    let P : List Event → List Owed → Shown = λ x y. record { events = x; hold = e.hold; owing = y } in
-    ap (λ x. P x (shown_of e).owing) same ∙ ap (λ y. P events y) owes
+-- A desk whose table and marks are as they were shows the same.
+pub same_line : (d e : Serial) → e.table ≡ d.table → e.marks ≡ d.marks → e.start ≡ d.start → e.hold ≡ d.hold → SameLine (shown_of d) (shown_of e)
+same_line d e table marks start hold = record { events = rw (marks, start, table) refl; hold = hold; owing = rw (hold, table) refl; grows = λ key m known. rw table known }
+
+-- The same between desks that are the same.
+pub did_at : {d0 d e f : Serial} {x y : Event} → d ≡ d0 → f ≡ e → y ≡ x → Did shown_of Happened d x e → Did shown_of Happened d0 y f
+did_at same is event did = rw (← same, is, event) did
 
 -- ---- lists
 
@@ -92,7 +94,7 @@ key_owing (Both h) t key names = refl
 key_owing NoHold t key names = absurd names
 key_owing (PeerLeft h) t key names = absurd names
 
-pub replay_done : (d : Serial) (shard : History) (place : Place) (key id at : ℕ) → Sound d → HoldsKey d.hold key → IsLooked (stand_of (shown_of d).events) → slice_get d.shards (key % 8) ≡ Some shard → MarkDone d (after_judged d shard place key id at) (Judged (judgement_at shard place key id at)) d.hold (shown_of d).owing
+pub replay_done : (d : Serial) (shard : History) (place : Place) (key id at : ℕ) → Sound d → HoldsKey d.hold key → IsLooked (stand_of (shown_of d).events) → slice_get d.shards (key % 8) ≡ Some shard → MarkDone d (Judged (judgement_at shard place key id at)) (after_judged d shard place key id at)
 unfolding judged
 replay_done d shard place key id at sound names looked shard_is =
     let e : Serial = after_judged d shard place key id at in
@@ -105,8 +107,10 @@ replay_done d shard place key id at sound names looked shard_is =
     let marks : steps_marked e.marks ≡ steps_marked d.marks = marked_other d.marks (mark.Judged (record { place = place; key = key; id = id; at = at; verdict = j.verdict })) refl in
     let was : d.start + steps_marked d.marks ≡ length d.table.journal = sound.marked in
     record {
-      shown_is = shown_by e ((shown_of d).events ++ Judged j ∷ []) (shown_of d).owing events refl;
-      done = record { makes = record { table = refl; shard = shard; shard_is = shard_is; judgement = refl; shards = refl; next = λ k. refl }; room = refl; first = refl; start = refl };
+      did = record {
+        leaves = record { events = events; hold_is = refl; owing_is = refl; grows = λ k m is. is; hops = refl };
+        done = record { makes = record { table = refl; shard = shard; shard_is = shard_is; judgement = refl; shards = refl; next = λ k. refl }; room = refl; first = refl; start = refl };
+      };
       sound = record {
         told = sound.told;
         eight = length_set d.shards (key % 8) _ ∙ sound.eight;
@@ -190,7 +194,7 @@ draw_debt (Both h) (stand.PeerGiven v u) key r names was = absurd was
 draw_debt NoHold s key r names was = absurd names
 draw_debt (PeerLeft h) s key r names was = absurd names
 
-pub draw_done : (d : Serial) (key : ℕ) → Sound d → HoldsKey d.hold key → IsLooked (stand_of (shown_of d).events) → MarkDone d (after_draw d key) (Drew key (drawn_of (next_of d key))) d.hold (shown_of d).owing
+pub draw_done : (d : Serial) (key : ℕ) → Sound d → HoldsKey d.hold key → IsLooked (stand_of (shown_of d).events) → MarkDone d (Drew key (drawn_of (next_of d key))) (after_draw d key)
 draw_done d key sound names looked =
     let e : Serial = after_draw d key in
     let n : ℕ = next_of d key in
@@ -213,8 +217,10 @@ draw_done d key sound names looked =
     let marks : steps_marked e.marks ≡ steps_marked d.marks = marked_other d.marks (mark.Drew key r) refl in
     let was : d.start + steps_marked d.marks ≡ length d.table.journal = sound.marked in
     record {
-      shown_is = shown_by e ((shown_of d).events ++ Drew key r ∷ []) (shown_of d).owing events refl;
-      done = record { makes = record { table = refl; shards = refl; draws = draws }; room = omega arith; first = refl; start = refl };
+      did = record {
+        leaves = record { events = events; hold_is = refl; owing_is = refl; grows = λ k m is. is; hops = refl };
+        done = record { makes = record { table = refl; shards = refl; draws = draws }; room = omega arith; first = refl; start = refl };
+      };
       sound = record {
         told = sound.told;
         eight = sound.eight;

@@ -1,6 +1,6 @@
 -- A key that is held and not used yet has its pair.
-use Rattle.std.proofs.Common.{ℕ, ◌≡◌, List, [], ◌∷◌, refl, sym, subst, ap, Bool, true, false, ◌||◌}
-use Rattle.std.specs.Prelude.{find, Option, Some, None, is_some, IsSome}
+use Rattle.std.proofs.Common.{ℕ, ◌≡◌, List, [], ◌∷◌, refl, sym, subst, ap, Bool, true, false, ◌||◌, Bor}
+use Rattle.std.specs.Prelude.{find, Option, Some, None, is_some, IsSome, option_copied}
 use Rattle.std.specs.Option.{option_or}
 use Rattle.std.specs.List.{list_any}
 use Rattle.ov_model.specs.declared.stand.Stand.{Stand}
@@ -48,3 +48,8 @@ unused_key d (Both h) (stand.KeyGiven v u) key held names unused = absurd unused
 unused_key d (Both h) (stand.PeerGiven v u) key held names unused = absurd unused
 unused_key d NoHold s key held names unused = absurd names
 unused_key d (PeerLeft h) s key held names unused = absurd names
+
+-- Whatever is lent is there.
+pub copied_some : {X : Type 0} (o : Option (Bor X)) → IsSome (option_copied o) → IsSome o
+copied_some (Some p) some = refl
+copied_some None some = some

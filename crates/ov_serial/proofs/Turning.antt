@@ -1,5 +1,5 @@
 -- One turn of a line at the desk: what happened since it began goes on, and fewer turns are left.
-use Rattle.std.proofs.Common.{ℕ, ◌≡◌, ◌+◌, ◌≤◌, List, [], ◌∷◌, ◌++◌, length, length-append, refl, ◌∙◌, ap, subst, arith, false}
+use Rattle.std.proofs.Common.{ℕ, ◌≡◌, ◌+◌, ◌≤◌, List, [], ◌∷◌, ◌++◌, length, length-append, refl, sym, ◌∙◌, ap, subst, arith, false}
 use Rattle.std.specs.Prelude.{Option, Some, None, ⊤}
 use Rattle.ov_model.specs.declared.place.Place.{Place}
 use Rattle.ov_model.specs.declared.act.Act.TheVariants as act
@@ -22,6 +22,10 @@ use Rattle.ov_model.specs.Tables.{Material}
 use Rattle.ov_model.specs.Packets.{opened}
 use Rattle.ov_model.specs.Events.{Event, Stepped, Judged, Drew, GaveKey, GavePeer, Step}
 use Rattle.ov_model.specs.Next.{Table, GiveKey, GivePeer, Over as over, request, asks_held, asks_opened, asks_drawn, see, judged_as, judged_used}
+use Rattle.ov_path.specs.declared.stage.Stage.{Stage}
+use Rattle.ov_path.specs.declared.stage.Stage.TheVariants as stage
+use Rattle.ov_path.specs.Desks.{View}
+use Rattle.ov_path.specs.Stages.{stand_at}
 use Rattle.ov_path.specs.Walks.{AtJudged, Opens, Trail}
 use Rattle.ov_serial.specs.Desks.{itself}
 use Rattle.ov_serial.specs.Running.{stages_left}
@@ -103,16 +107,15 @@ given_later h u (GaveKey key g) is = absurd (cc)
 given_later h u (GavePeer peer g) is = omega arith
 
 -- A line that goes on isn't at its beginning any more.
-pub fresh_later : (material : ℕ → Option Material) (place : Place) (line : Line) (es : List Event) (e : Event) (os : List Owed) (a : Option Answer) (t : Stand) → Trail material itself place line t (es ++ e ∷ []) os a → stages_left t + 1 ≤ 5
-fresh_later material place line es e os a stand.Fresh trail = absurd (never_empty es e trail.none)
-fresh_later material place line es e os a stand.Replied trail = omega arith
-fresh_later material place line es e os a stand.Missed trail = omega arith
-fresh_later material place line es e os a (stand.Looked h) trail = omega arith
-fresh_later material place line es e os a (stand.Drew h d) trail = omega arith
-fresh_later material place line es e os a (stand.Judged h) trail = omega arith
-fresh_later material place line es e os a (stand.Used h u) trail = omega arith
-fresh_later material place line es e os a (stand.KeyGiven h u) trail = omega arith
-fresh_later material place line es e os a (stand.PeerGiven h u) trail = omega arith
+pub fresh_later : (place : Place) (line : Line) (w : View) (es : List Event) (e : Event) (t : Stage) → w.events ≡ es ++ e ∷ [] → Trail itself place line w t → stages_left (stand_at t) + 1 ≤ 5
+fresh_later place line w es e stage.Fresh one trail = absurd (never_empty es e (sym one ∙ trail.none))
+fresh_later place line w es e (stage.Replied a) one trail = omega arith
+fresh_later place line w es e (stage.Looked h p) one trail = omega arith
+fresh_later place line w es e (stage.Drew h d) one trail = omega arith
+fresh_later place line w es e (stage.Judged h packet) one trail = omega arith
+fresh_later place line w es e (stage.Used h u a) one trail = omega arith
+fresh_later place line w es e (stage.KeyGiven h u a) one trail = omega arith
+fresh_later place line w es e (stage.PeerGiven h u a) one trail = omega arith
 
 -- After a judgement a line has two events.
 opens_one : (place : Place) (at : ℕ) (h : HoldView) (d : Deed) (m : Material) (later : List Event) (packet : List ℕ) → Opens place at h d m later packet → length later ≡ 1
@@ -120,9 +123,9 @@ opens_one place at h (deed.Rx from bytes) m later packet opens = ap length opens
 opens_one place at h (deed.Tx p) m later packet opens = absurd opens
 opens_one place at h (deed.Netlink n) m later packet opens = absurd opens
 
-judged_two : (material : ℕ → Option Material) (place : Place) (line : Line) (h : HoldView) (es : List Event) (os : List Owed) (a : Option Answer) → AtJudged material itself place line h es os a → length es ≡ 2
-judged_two material place line h es os a at =
-    let one : length at.later ≡ 1 = opens_one place line.at h line.deed at.m at.later at.packet at.opens in
+judged_two : (place : Place) (line : Line) (w : View) (h : HoldView) (packet : List ℕ) → AtJudged itself place line w h packet → length w.events ≡ 2
+judged_two place line w h packet at =
+    let one : length at.later ≡ 1 = opens_one place line.at h line.deed at.m at.later packet at.opens in
     ap length at.held.events ∙ rw one refl
 
 -- A judged line neither draws nor looks up again.
@@ -153,17 +156,16 @@ judged_stays h (Drew key r) = tt
 judged_stays h (GaveKey key g) = tt
 judged_stays h (GavePeer peer g) = tt
 
-pub judged_later : (material old : ℕ → Option Material) (place : Place) (line : Line) (h : HoldView) (es : List Event) (e : Event) (os ps : List Owed) (a b : Option Answer) (t : Stand) → AtJudged old itself place line h es ps b → see (stand.Judged h) e ≡ t → Trail material itself place line t (es ++ e ∷ []) os a → stages_left t + 1 ≤ 3
-judged_later material old place line h es e os ps a b (stand.Judged v) was is trail =
-    let two = judged_two old place line h es ps b was in
-    let also = judged_two material place line v (es ++ e ∷ []) os a trail in
-    let more = length-append es (e ∷ []) in
+pub judged_later : (place : Place) (line : Line) (v w : View) (h : HoldView) (packet : List ℕ) (e : Event) (t : Stage) → AtJudged itself place line v h packet → see (stand.Judged h) e ≡ stand_at t → w.events ≡ v.events ++ e ∷ [] → Trail itself place line w t → stages_left (stand_at t) + 1 ≤ 3
+judged_later place line v w h packet e (stage.Judged x other) was is one trail =
+    let two = judged_two place line v h packet was in
+    let also = judged_two place line w x other trail in
+    let more = ap length one ∙ length-append v.events (e ∷ []) in
     absurd (omega arith)
-judged_later material old place line h es e os ps a b stand.Fresh was is trail = absurd (never_empty es e trail.none)
-judged_later material old place line h es e os ps a b stand.Replied was is trail = omega arith
-judged_later material old place line h es e os ps a b stand.Missed was is trail = omega arith
-judged_later material old place line h es e os ps a b (stand.Looked v) was is trail = absurd (subst IsPastDraw is (judged_stays h e))
-judged_later material old place line h es e os ps a b (stand.Drew v r) was is trail = absurd (subst IsPastDraw is (judged_stays h e))
-judged_later material old place line h es e os ps a b (stand.Used v u) was is trail = omega arith
-judged_later material old place line h es e os ps a b (stand.KeyGiven v u) was is trail = omega arith
-judged_later material old place line h es e os ps a b (stand.PeerGiven v u) was is trail = omega arith
+judged_later place line v w h packet e stage.Fresh was is one trail = absurd (never_empty v.events e (sym one ∙ trail.none))
+judged_later place line v w h packet e (stage.Replied a) was is one trail = omega arith
+judged_later place line v w h packet e (stage.Looked x p) was is one trail = absurd (subst IsPastDraw is (judged_stays h e))
+judged_later place line v w h packet e (stage.Drew x r) was is one trail = absurd (subst IsPastDraw is (judged_stays h e))
+judged_later place line v w h packet e (stage.Used x u a) was is one trail = omega arith
+judged_later place line v w h packet e (stage.KeyGiven x u a) was is one trail = omega arith
+judged_later place line v w h packet e (stage.PeerGiven x u a) was is one trail = omega arith

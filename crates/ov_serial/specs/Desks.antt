@@ -27,7 +27,7 @@ use Rattle.ov_model.specs.Replay.{judged}
 use Rattle.ov_replay.specs.History.{History}
 use Rattle.ov_model.specs.declared.reply.Reply.{Reply}
 use Rattle.ov_model.specs.Lifetime.{key_made_by}
-use Rattle.ov_path.specs.Desks.{Shown, Holding, NoHold, Both, PeerLeft, held_after, peer_left}
+use Rattle.ov_path.specs.Desks.{View, Holding, NoHold, Both, PeerLeft, held_after, peer_left}
 use Rattle.ov_table.specs.Recorded.{Recorded, stepped, entry_of, IsTold, first_waiting, no_steps, is_release}
 use Rattle.ov_serial.specs.declared.holding.Hold.{Hold}
 use Rattle.ov_serial.specs.declared.holding.Hold.TheVariants as hold
@@ -87,15 +87,21 @@ owing_of (PeerLeft h) t = waiting t
 abbrev pub line_steps : Serial → List Step
 line_steps d = drop d.start (steps_of d.table.journal)
 
-abbrev pub shown_of : Serial → Shown
-shown_of d = record { events = events_of d.marks (line_steps d); hold = d.hold; owing = owing_of d.hold d.table.now }
-
 abbrev pub material_of_desk : Serial → ℕ → Option Material
 material_of_desk d = key_of d.table.journal
 
 -- Without routes the next hop of an address is the address itself.
 abbrev pub itself : Addr → Addr
 itself a = a
+
+abbrev pub shown_of : Serial → View
+shown_of d = record {
+  events = events_of d.marks (line_steps d);
+  hold = d.hold;
+  owing = owing_of d.hold d.table.now;
+  material = material_of_desk d;
+  via = itself;
+}
 
 -- ---- what an event makes of it
 

@@ -5,11 +5,13 @@ use Rattle.ov_model.specs.declared.line.Line.{Line}
 use Rattle.ov_model.specs.declared.answer.Answer.{Answer}
 use Rattle.ov_model.specs.declared.stand.Stand.{Stand}
 use Rattle.ov_model.specs.declared.stand.Stand.TheVariants as stand
+use Rattle.ov_path.specs.declared.stage.Stage.{Stage}
+use Rattle.ov_path.specs.Stages.{stand_at}
 use Rattle.ov_path.specs.declared.walk.Progress.{Progress}
 use Rattle.ov_path.specs.declared.walk.Progress.TheVariants.{More, Answered}
 use Rattle.ov_path.specs.Desks.{NoHold}
 use Rattle.ov_path.specs.Walks.{Walking, IsOpen, Over}
-use Rattle.ov_serial.specs.Desks.{Serial, Sound, shown_of, material_of_desk, itself, after_begin}
+use Rattle.ov_serial.specs.Desks.{Serial, Sound, shown_of, itself, after_begin}
 use Rattle.ov_serial.specs.Lines.{Since, Rested}
 
 -- How many kinds of events may still come, by the stand.
@@ -30,28 +32,28 @@ abbrev pub turns_left : Serial → Stand → ℕ
 turns_left d s = 9 * stages_left s + d.room
 
 -- A turn: what happened since the line began goes on, and where the line isn't answered fewer turns are left.
-pub record TurnedOn (d e : Serial) (place : Place) (line : Line) (s t : Stand) (a : Option Answer) : Type 0 where
-  pub walking : Walking (material_of_desk e) itself place line (shown_of e) t a
+pub record TurnedOn (d e : Serial) (place : Place) (line : Line) (s t : Stage) : Type 0 where
+  pub walking : Walking itself place line (shown_of e) t
   pub is_open : IsOpen t (shown_of e).owing
   pub since : (d0 : Serial) → Since d0 d (shown_of d).events → Since d0 e (shown_of e).events
-  pub fewer : turns_left e t + 1 ≤ turns_left d s
+  pub fewer : turns_left e (stand_at t) + 1 ≤ turns_left d (stand_at s)
 
 pub record TurnedOver (d e : Serial) (place : Place) (line : Line) (b : Answer) : Type 0 where
-  pub over : Over (material_of_desk e) itself place line (shown_of e) b
+  pub over : Over itself place line (shown_of e) b
   pub since : (d0 : Serial) → Since d0 d (shown_of d).events → Since d0 e (shown_of e).events
 
-abbrev pub Turned : Serial → Serial → Place → Line → Stand → Stand → Option Answer → Progress → Type 0
-Turned d e place line s t a More = TurnedOn d e place line s t a
-Turned d e place line s t a (Answered b) = TurnedOver d e place line b
+abbrev pub Turned : Serial → Serial → Place → Line → Stage → Stage → Progress → Type 0
+Turned d e place line s t More = TurnedOn d e place line s t
+Turned d e place line s t (Answered b) = TurnedOver d e place line b
 
 -- A line was run at the desk from its beginning to its end.
 pub record RanAt (d e : Serial) (place : Place) (line : Line) (a : Answer) : Type 0 where
-  pub over : Over (material_of_desk e) itself place line (shown_of e) a
+  pub over : Over itself place line (shown_of e) a
   pub since : Since (after_begin d) e (shown_of e).events
 
 -- A line that was begun at the desk goes on.
-pub record GoesOn (d e : Serial) (place : Place) (line : Line) (at : Place) (s : Stand) (a : Option Answer) : Type 0 where
-  pub walking : Walking (material_of_desk e) itself at line (shown_of e) s a
+pub record GoesOn (d e : Serial) (place : Place) (line : Line) (at : Place) (s : Stage) : Type 0 where
+  pub walking : Walking itself at line (shown_of e) s
   pub is_open : IsOpen s (shown_of e).owing
   pub since : Since (after_begin d) e (shown_of e).events
   pub same_place : at ≡ place

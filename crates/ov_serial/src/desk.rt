@@ -7,7 +7,7 @@ ghost use Rattle.std.specs.List.{AllByRecursion};
 ghost use Rattle.ov_model.specs.Replay.{ShardJudges};
 ghost use Rattle.ov_serial.specs.Lines.{AllJudge};
 ghost use Rattle.ov_model.specs.Keys.{key_of};
-ghost use Rattle.ov_path.specs.Desks.{NoHold};
+ghost use Rattle.ov_path.specs.Desks.{NoHold, IsNew};
 ghost use Rattle.ov_serial.specs.Desks.{Serial, Sound, new_desk, after_begin, shown_of, histories};
 ghost use Rattle.ov_serial.specs.Desks as spec;
 
@@ -50,9 +50,27 @@ impl Model for SerialDesk {
 
     ghost Value = { Serial };
 
-    ghost view = { λ d. record { table = d.table; shards = d.shards.items; first = d.first; next = d.next.items; marks = d.past.marks; room = d.past.room; start = d.start; hold = holding d.hold } };
+    ghost view = { λ d. record {
+      table = d.table;
+      shards = d.shards.items;
+      first = d.first;
+      next = d.next.items;
+      marks = d.past.marks;
+      room = d.past.room;
+      start = d.start;
+      hold = holding d.hold;
+    } };
 
-    ghost invariant = { λ d. Sound (record { table = d.table; shards = d.shards.items; first = d.first; next = d.next.items; marks = d.past.marks; room = d.past.room; start = d.start; hold = holding d.hold }) };
+    ghost invariant = { λ d. Sound (record {
+      table = d.table;
+      shards = d.shards.items;
+      first = d.first;
+      next = d.next.items;
+      marks = d.past.marks;
+      room = d.past.room;
+      start = d.start;
+      hold = holding d.hold;
+    }) };
 }
 
 impl SerialDesk {
@@ -77,7 +95,7 @@ impl SerialDesk {
         requires free { self.old.hold ≡ NoHold }
         requires owes { (shown_of self.old).owing ≡ [] }
         ensures begun { self.new ≡ after_begin self.old }
-        ensures shown { shown_of self.new ≡ record { events = []; hold = NoHold; owing = [] } }
+        ensures shown { IsNew (shown_of self.new) }
     {
         self.past.clear();
         self.start = self.table.journal().len();
@@ -112,16 +130,13 @@ impl SerialDesk {
 }
 
 impl Desk for SerialDesk {
-    ghost use Rattle.ov_serial.specs.Desks.{shown_of, material_of_desk, itself, Happened};
+    ghost use Rattle.ov_serial.specs.Desks.{shown_of, Happened};
 
-    ghost shown = { λ d. shown_of d };
-
-    ghost material = { λ d. material_of_desk d };
-
-    ghost via = { λ d. itself };
+    ghost view = { λ d. shown_of d };
 
     ghost does = { λ d event e. Happened d event e };
 
+    #[tactic(auto, using(crate::proofs::Marking::same_line))]
     fn table(&mut self, place: Place, call: &Call) -> Result<Reply, Memory> {
         self.next.reserve(1)?;
         self.past.reserve(MOST_MARKS)?;
@@ -132,10 +147,11 @@ impl Desk for SerialDesk {
         Ok(reply)
     }
 
-    fn pair(&mut self, key: u32) -> Option<KeyPair> {
+    fn pair(&self, key: u32) -> Option<&KeyPair> {
         self.table.pair(key)
     }
 
+    #[tactic(auto, using(crate::proofs::Marking::same_line))]
     fn replay(&mut self, place: Place, key: u32, id: u32, at: u32) -> Result<Verdict, Memory> {
         self.past.reserve(MOST_MARKS)?;
         let shard = (key % SHARDS) as usize;
@@ -231,7 +247,8 @@ fn new_shards(alloc: Global) -> Result<Vec<Shard>, Memory>
 /// Closes the shards: their histories, in their order.
 fn finish_all(alloc: Global, shards: Vec<Shard>) -> Result<ListOf<ListOf<ReplayEntry>>, Memory>
     ensures histories { IfOk result (λ histories. histories ≡ spec.histories shards.items) }
-    ensures judged { OnOk result (AllByRecursion (λ s. ShardJudges s.number s.entries) shards.items) }
+    ensures judged { OnOk result (AllByRecursion (λ s.
+        ShardJudges s.number s.entries) shards.items) }
 {
     let mut histories = Vec::new(alloc);
     for shard in shards {

@@ -6,7 +6,7 @@ ghost use Rattle.std.specs.List.{AllByRecursion};
 ghost use Rattle.ov_model.specs.Sizes.{Fits};
 ghost use Rattle.ov_path.specs.Desks.{NoHold};
 ghost use Rattle.ov_path.specs.Walks.{Walking, IsOpen, Progressed};
-ghost use Rattle.ov_serial.specs.Desks.{Serial, Sound, shown_of, material_of_desk, itself};
+ghost use Rattle.ov_serial.specs.Desks.{Serial, Sound, shown_of, itself};
 ghost use Rattle.ov_serial.specs.Lines.{Rested};
 ghost use Rattle.ov_serial.specs.Running.{Turned, turns_left, RanAt};
 
@@ -23,10 +23,11 @@ fn turn(
     walk: &mut Walk,
     line: &Line,
 ) -> Result<Progress, Memory>
-    requires walking { Walking (material_of_desk desk.old) itself walk.old.place line.now (shown_of desk.old) walk.old.stand walk.old.answer }
-    requires open { IsOpen walk.old.stand (shown_of desk.old).owing }
+    requires walking { Walking itself walk.old.place line.now (shown_of desk.old) walk.old.stage }
+    requires open { IsOpen walk.old.stage (shown_of desk.old).owing }
     requires fits { Fits line.now.deed }
-    ensures then { IfOk result (λ r. Turned desk.old desk.new walk.old.place line.now walk.old.stand walk.new.stand walk.new.answer r) }
+    ensures then { IfOk result (λ r.
+        Turned desk.old desk.new walk.old.place line.now walk.old.stage walk.new.stage r) }
     ensures place { walk.new.place ≡ walk.old.place }
 {
     let progress = walk.turn(alloc, desk, line)?;

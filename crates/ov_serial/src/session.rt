@@ -25,9 +25,11 @@ pub fn run_script(alloc: Global, script: Script, first: u32) -> Result<Report, M
     ensures shards { IfOk result ShardsJudge }
     ensures ids { IfOk result (IdsCount first) }
     ensures whole { IfOk result (λ report. AllByRecursion (IsWhole script.lines) report.lanes) }
-    ensures follow { IfOk result (λ report. LinesFollowPath (key_of report.journal) (λ a. a) report) }
+    ensures follow { IfOk result (λ report. LinesFollowPath (key_of report.journal) (λ a.
+        a) report) }
     ensures one_lane { IfOk result (λ report. length report.lanes ≡ 1) }
-    ensures legal { IfOk result (λ report. AllByRecursion (λ line. line.lane < 1) script.lines → Legal script first report) }
+    ensures legal { IfOk result (λ report. AllByRecursion (λ line. line.lane < 1) script.lines →
+        Legal script first report) }
 {
     let Script { lines } = script;
     let mut desk = SerialDesk::new(alloc, first)?;

@@ -2,7 +2,7 @@
 //! true that at most 4,096 peers and 65,536 keys were ever made and that the lists hold no more peers than
 //! were made.
 
-ghost use Rattle.std.specs.Prelude.{◌≡◌, ◌≤◌, ◌+◌, ◌||◌, max, false, IfOk, IfSome, OnOk, OnErr};
+ghost use Rattle.std.specs.Prelude.{◌≡◌, ◌≤◌, ◌+◌, ◌||◌, max, false, IfOk, IfSome, OnOk, OnErr, option_copied};
 ghost use Rattle.ov_model.specs.Step as model;
 ghost use Rattle.ov_model.specs.Tables.{empty_table};
 ghost use Rattle.ov_table.specs.Outcomes.{outcome};
@@ -43,9 +43,17 @@ impl Model for Peers {
 
     ghost Value = { Table };
 
-    ghost view = { λ t. record { live = t.live.items; dying = t.dying.items; retired = t.retired.items; made = t.made; keys_made = t.keys_made; moment = t.moment } };
+    ghost view = { λ t. record {
+      live = t.live.items;
+      dying = t.dying.items;
+      retired = t.retired.items;
+      made = t.made;
+      keys_made = t.keys_made;
+      moment = t.moment;
+    } };
 
-    ghost invariant = { λ t. (t.made ≤ most_peers) × (length t.live.items + length t.dying.items ≤ t.made) × (t.keys_made ≤ most_keys) };
+    ghost invariant = { λ t. (t.made ≤ most_peers) ×
+        (length t.live.items + length t.dying.items ≤ t.made) × (t.keys_made ≤ most_keys) };
 }
 
 impl Peers {
@@ -115,15 +123,16 @@ impl Peers {
         }
     }
 
-    /// What the key with a serial seals and opens with, where it is in a slot of a live peer or retired.
-    pub fn pair(&self, key: u32) -> Option<KeyPair>
-        ensures { result ≡ pair_in self.now key }
+    /// What the key with a serial seals and opens with, where it is in a slot of a live peer or retired. It
+    /// is lent: a pair has 1.7 KB.
+    pub fn pair(&self, key: u32) -> Option<&KeyPair>
+        ensures { option_copied result ≡ pair_in self.now key }
     {
         if let Some(key) = find::key_in_slots(&self.live, key) {
-            return Some(*key.pair);
+            return Some(&key.pair);
         }
         let key = find::with_key_serial(&self.retired, key)?;
-        Some(*key.pair)
+        Some(&key.pair)
     }
 
     /// One act that isn't a release, at the moment `now`.

@@ -2,7 +2,7 @@
 //! table is the present one and whose notes are the kept ones, and that each peer that isn't let go and
 //! each retired key has room for the entry that lets it go.
 
-ghost use Rattle.std.specs.Prelude.{◌≡◌, ◌<◌, ◌≤◌, ◌++◌, true, false, IfOk, IsOk, OnOk, OnErr, vec_len};
+ghost use Rattle.std.specs.Prelude.{◌≡◌, ◌<◌, ◌≤◌, ◌++◌, true, false, IfOk, IsOk, OnOk, OnErr, vec_len, option_copied};
 ghost use Rattle.std.specs.Vec.{vec_capacity};
 ghost use Rattle.ov_model.specs.declared.act.Act.TheVariants as act;
 ghost use Rattle.ov_model.specs.Runs.{numbered};
@@ -164,8 +164,8 @@ impl Table {
 
     /// What the key with a serial seals and opens with: Some exactly where it stands in a slot of a live
     /// peer or is retired and not let go yet.
-    pub fn pair(&self, key: u32) -> Option<KeyPair>
-        ensures { result ≡ pair_in self.now.now key }
+    pub fn pair(&self, key: u32) -> Option<&KeyPair>
+        ensures { option_copied result ≡ pair_in self.now.now key }
     {
         self.peers.pair(key)
     }

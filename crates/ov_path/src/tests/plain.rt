@@ -1,6 +1,8 @@
 // A second desk, over plain lists: one peer, one key, and the events of its line as they came.
 
-ghost use Rattle.std.specs.Prelude.{◌≡◌, ◌<◌, ◌++◌, [], IfOk, vec_len};
+ghost use Rattle.std.specs.Prelude.{◌≡◌, ◌<◌, ◌++◌, [], IfOk, vec_len, nat_eq};
+ghost use Rattle.std.specs.List.{IsDistinct};
+ghost use Rattle.ov_model.specs.Path.{removed};
 ghost use Rattle.std.specs.Vec.{vec_capacity};
 ghost use Rattle.ov_path.specs.Desks.{NoHold, IsNew, held_after, owed_if, IsReplyOf, HasMaterial};
 ghost use Rattle.ov_path.specs.Plain.{Joined, one_key, listed, shown_of};
@@ -83,9 +85,25 @@ impl Model for Plain {
 
     ghost Value = { Kept };
 
-    ghost view = { λ p. record { events = p.past.events; room = p.past.room; hold = p.hold; drew = p.drew; owing = p.owing; pair = p.pair; hop = p.hop } };
+    ghost view = { λ p. record {
+      events = p.past.events;
+      room = p.past.room;
+      hold = p.hold;
+      drew = p.drew;
+      owing = p.owing;
+      pair = p.pair;
+      hop = p.hop;
+    } };
 
-    ghost invariant = { λ p. Sound (record { events = p.past.events; room = p.past.room; hold = p.hold; drew = p.drew; owing = p.owing; pair = p.pair; hop = p.hop }) };
+    ghost invariant = { λ p. Sound (record {
+      events = p.past.events;
+      room = p.past.room;
+      hold = p.hold;
+      drew = p.drew;
+      owing = p.owing;
+      pair = p.pair;
+      hop = p.hop;
+    }) };
 }
 
 impl Plain {
@@ -138,8 +156,10 @@ impl Plain {
 
     /// Takes one step of the table, whose reply fits it. A removal has the one peer's serial, and every other
     /// command is done.
+    #[tactic(auto, using(crate::proofs::Plain::few_differ))]
     fn decide(&self, act: &Act) -> Result<Reply, Memory>
         ensures fits { IfOk result (λ r. IsReplyOf act.now r) }
+        ensures apart { IfOk result (λ r. IsDistinct nat_eq (removed r)) }
         ensures has { IfOk result (λ r. HasMaterial (one_key self.now.pair) act.now r) }
     {
         match act {

@@ -39,7 +39,23 @@ impl Model for Told {
 
     ghost Value = { Event };
 
-    ghost view = { λ t. elim t.kind as (λ k. Event) [ Step e ↦ Stepped (record { entry = e; taken = taken_by e.call.act e.reply }) | Replay place key id at verdict ↦ Judged (record { place = place; key = key; id = id; at = at; verdict = verdict }) | Draw key drawn ↦ Drew key drawn | KeyBack key given ↦ GaveKey key given | PeerBack peer given ↦ GavePeer peer given ] };
+    ghost view = { λ t. elim t.kind as (λ k. Event) [
+      | Step e ↦ Stepped (record {
+        entry = e;
+        taken = taken_by e.call.act e.reply;
+      })
+      | Replay place key id at verdict ↦ Judged (record {
+        place = place;
+        key = key;
+        id = id;
+        at = at;
+        verdict = verdict;
+      })
+      | Draw key drawn ↦ Drew key drawn
+      | KeyBack key given ↦ GaveKey key
+          given
+      | PeerBack peer given ↦ GavePeer peer given
+    ] };
 }
 
 impl Told {

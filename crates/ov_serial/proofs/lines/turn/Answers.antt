@@ -2,12 +2,12 @@
 use Rattle.std.proofs.Common.{subst}
 use Rattle.ov_model.specs.declared.place.Place.{Place}
 use Rattle.ov_path.specs.Walks.{Progressed}
-use Rattle.ov_serial.specs.Desks.{shown_of, material_of_desk, itself}
+use Rattle.ov_serial.specs.Desks.{shown_of, itself}
 use Rattle.ov_serial.proofs.Ending.{turned}
 use Rattle.ov_serial.proofs.lines.turn.Goals as goal
 
 pub returns-clause-then : goal.returns-clause-then
 returns-clause-then c =
-    turned c.args.desk.now c.turn.new.desk c.args.walk.now.place c.args.line.now c.args.walk.now.stand c.turn.new.self.stand c.args.walk.now.answer c.turn.new.self.answer c.in_ok-progress.progress c.requires.walking
-    (subst (λ (p : Place). Progressed (material_of_desk c.turn.new.desk) itself p c.args.line.now (shown_of c.turn.new.desk) c.turn.new.self.stand c.turn.new.self.answer c.in_ok-progress.progress) c.in_ok-progress.ensures.place c.in_ok-progress.ensures.then)
+    turned c.args.desk.now c.turn.new.desk c.args.walk.now.place c.args.line.now c.args.walk.now.stage c.turn.new.self.stage c.in_ok-progress.progress c.requires.walking
+    (subst (λ (p : Place). Progressed itself p c.args.line.now (shown_of c.turn.new.desk) c.turn.new.self.stage c.in_ok-progress.progress) c.in_ok-progress.ensures.stays.place c.in_ok-progress.ensures.then)
     c.in_ok-progress.ensures.made c.keeps.ensures

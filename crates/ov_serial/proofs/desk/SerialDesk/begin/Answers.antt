@@ -1,6 +1,6 @@
 -- A new line.
 use Rattle.std.proofs.Common.{◌≡◌, [], ◌∙◌, length, sym, refl, subst, ap}
-use Rattle.ov_path.specs.Desks.{NoHold}
+use Rattle.ov_path.specs.Desks.{NoHold, IsNew}
 use Rattle.ov_serial.specs.Pasts.{Past}
 use Rattle.ov_serial.specs.contracts.desk.SerialDesk.{the_view}
 use Rattle.ov_serial.specs.Desks.{Serial, shown_of, after_begin}
@@ -13,4 +13,4 @@ returns-clause-shown c =
     let d : Serial = the_view c.self.inside in
     let now : Serial = record d { marks = c.clear.new.self.marks; room = c.clear.new.self.room; start = length c.journal.result.now } in
     let is : now ≡ after_begin d = same_desk now (after_begin d) refl refl refl refl (ap (λ (p : Past). p.marks) c.clear.ensures) (ap (λ (p : Past). p.room) c.clear.ensures) (ap length c.journal.ensures.value) refl in
-    ap shown_of is ∙ (begin_done d c.self.invariant (subst (λ (x : Serial). x.hold ≡ NoHold) (sym c.self.view_is) c.requires.free) (subst (λ (x : Serial). (shown_of x).owing ≡ []) (sym c.self.view_is) c.requires.owes)).shown_is
+    subst (λ (e : Serial). IsNew (shown_of e)) (sym is) (begin_done d c.self.invariant (subst (λ (x : Serial). x.hold ≡ NoHold) (sym c.self.view_is) c.requires.free) (subst (λ (x : Serial). (shown_of x).owing ≡ []) (sym c.self.view_is) c.requires.owes)).shown_is

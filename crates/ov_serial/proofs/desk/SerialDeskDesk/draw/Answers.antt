@@ -2,11 +2,11 @@
 use Rattle.std.proofs.Common.{◌≡◌, sym, refl, subst, ◌∙◌, ap, slice_set, [], ◌∷◌, ◌++◌}
 use Rattle.ov_model.specs.Events.{Drew}
 use Rattle.ov_model.specs.Next.{stand_of}
-use Rattle.ov_path.specs.Desks.{HoldsKey, IsLooked, with_event}
+use Rattle.ov_path.specs.Desks.{HoldsKey, IsLooked}
 use Rattle.ov_serial.specs.declared.past.Mark.TheVariants as mark
 use Rattle.ov_serial.specs.Desks.{Serial, Sound, shown_of, next_of, next_after, drawn_of, after_draw}
 use Rattle.ov_serial.specs.contracts.desk.SerialDesk.{the_view}
-use Rattle.ov_serial.proofs.Marking.{MarkDone, draw_done, key_counted, same_desk, read_next, one_less}
+use Rattle.ov_serial.proofs.Marking.{MarkDone, did_at, draw_done, key_counted, same_desk, read_next, one_less}
 use Rattle.ov_serial.proofs.desk.SerialDeskDesk.draw.Goals as goal
 
 abbrev was : (c : goal.After-push) → Serial
@@ -30,7 +30,7 @@ sound_was c = c.self.invariant
 held : (c : goal.After-push) → HoldsKey (was c).hold c.args.key
 held c = subst (λ (d : Serial). HoldsKey d.hold c.args.key) (sym c.self.view_is) c.requires.held
 
-done : (c : goal.After-push) → MarkDone (was c) (after_draw (was c) c.args.key) (Drew c.args.key (drawn_of (next_of (was c) c.args.key))) (was c).hold (shown_of (was c)).owing
+done : (c : goal.After-push) → MarkDone (was c) (Drew c.args.key (drawn_of (next_of (was c) c.args.key))) (after_draw (was c) c.args.key)
 done c = draw_done (was c) c.args.key (sound_was c) (held c) (subst (λ (d : Serial). IsLooked (stand_of (shown_of d).events)) (sym c.self.view_is) c.requires.looked)
 
 read : (c : goal.After-push) → c.index-next.result.now ≡ next_of (was c) c.args.key
@@ -48,8 +48,5 @@ is c = same_desk (now c) (after_draw (was c) c.args.key) refl refl refl
 pub invariant_of-self : goal.invariant_of-self
 invariant_of-self c = subst Sound (sym (is c)) (done c).sound
 
-pub returns-clause-event : goal.returns-clause-event
-returns-clause-event c =
-    let shown : shown_of (now c) ≡ with_event (shown_of (was c)) (Drew c.args.key c.drawn-result.result) =
-    ap shown_of (is c) ∙ (done c).shown_is ∙ ap (λ r. with_event (shown_of (was c)) (Drew c.args.key r)) (sym (drew c)) in
-    subst (λ (d : Serial). shown_of (now c) ≡ with_event (shown_of d) (Drew c.args.key c.drawn-result.result)) c.self.view_is shown
+pub returns-clause-drew : goal.returns-clause-drew
+returns-clause-drew c = did_at c.self.view_is (is c) (ap (λ r. Drew c.args.key r) (drew c)) (done c).did

@@ -5,10 +5,10 @@ use Rattle.ov_serial.specs.contracts.desk.SerialDesk.{the_view}
 use Rattle.ov_model.specs.declared.hold.Given.{Given}
 use Rattle.ov_model.specs.declared.hold.Owed.TheVariants as owed
 use Rattle.ov_model.specs.Events.{GaveKey}
-use Rattle.ov_path.specs.Desks.{Shown, HoldsKey, owed_if, peer_left}
+use Rattle.ov_path.specs.Desks.{HoldsKey}
 use Rattle.ov_table.specs.Recorded.{first_waiting}
 use Rattle.ov_serial.specs.Desks.{Serial, Sound, shown_of, holding, given_where, after_key}
-use Rattle.ov_serial.proofs.Marking.{MarkDone, marked_as, same_desk, one_less}
+use Rattle.ov_serial.proofs.Marking.{MarkDone, did_at, marked_as, same_desk, one_less}
 use Rattle.ov_serial.proofs.Giving.{key_done}
 use Rattle.ov_serial.proofs.desk.SerialDeskDesk.give_back_key.Goals as goal
 
@@ -24,7 +24,7 @@ sound_was c = c.self.invariant
 given_is : (c : goal.After-push) → c.last_where-given.result ≡ given_where (first_waiting (was c).table.now)
 given_is c = c.last_where-given.ensures ∙ ap given_where c.waiting.ensures
 
-done : (c : goal.After-push) → MarkDone (was c) (after_key (was c) c.args.key) (GaveKey c.args.key (given_where (first_waiting (was c).table.now))) (peer_left (was c).hold) ((shown_of (was c)).owing ++ owed_if (given_where (first_waiting (was c).table.now)) (owed.Key c.args.key))
+done : (c : goal.After-push) → MarkDone (was c) (GaveKey c.args.key (given_where (first_waiting (was c).table.now))) (after_key (was c) c.args.key)
 done c = key_done (was c) c.args.key (sound_was c) (subst (λ (d : Serial). HoldsKey d.hold c.args.key) (sym c.self.view_is) c.requires.held)
 
 is : (c : goal.After-push) → now c ≡ after_key (was c) c.args.key
@@ -35,12 +35,5 @@ is c = same_desk (now c) (after_key (was c) c.args.key) refl refl refl refl
 pub invariant_of-self : goal.invariant_of-self
 invariant_of-self c = subst Sound (sym (is c)) (done c).sound
 
-gave : (d : Serial) → (key : ℕ) → Given → Shown
-gave d key g = record { events = (shown_of d).events ++ GaveKey key g ∷ []; hold = peer_left d.hold; owing = (shown_of d).owing ++ owed_if g (owed.Key key) }
-
-pub returns-clause-event : goal.returns-clause-event
-unfolding gave
-returns-clause-event c =
-    let shown : shown_of (now c) ≡ gave (was c) c.args.key c.last_where-given.result =
-    ap shown_of (is c) ∙ (done c).shown_is ∙ ap (λ g. gave (was c) c.args.key g) (sym (given_is c)) in
-    subst (λ (d : Serial). shown_of (now c) ≡ gave d c.args.key c.last_where-given.result) c.self.view_is shown
+pub returns-clause-gave : goal.returns-clause-gave
+returns-clause-gave c = did_at c.self.view_is (is c) (ap (λ g. GaveKey c.args.key g) (given_is c)) (done c).did

@@ -7,7 +7,7 @@ use Rattle.ov_path.specs.Desks.{HoldsKey, IsUnused}
 use Rattle.ov_table.proofs.Installed.{pair_installed}
 use Rattle.ov_serial.specs.contracts.desk.SerialDesk.{the_view}
 use Rattle.ov_serial.specs.Desks.{Serial, Sound, shown_of, material_of_desk}
-use Rattle.ov_serial.proofs.Pairs.{pair_there, unused_key}
+use Rattle.ov_serial.proofs.Pairs.{pair_there, unused_key, copied_some}
 use Rattle.ov_serial.proofs.desk.SerialDeskDesk.pair.Goals as goal
 
 pub returns-clause-is : goal.returns-clause-is
@@ -22,4 +22,4 @@ returns-clause-some c = λ names unused.
     let sound : Sound d = c.self.invariant in
     let held : HoldsKey d.hold c.args.key = subst (λ (x : Serial). HoldsKey x.hold c.args.key) (sym c.self.view_is) names in
     let not_used : IsUnused (stand_of (shown_of d).events) = subst (λ (x : Serial). IsUnused (stand_of (shown_of x).events)) (sym c.self.view_is) unused in
-    subst (λ (o : Option Material). IsSome o) (sym c.pair.ensures) (pair_there d.table.now c.args.key (unused_key d d.hold (stand_of (shown_of d).events) c.args.key sound.held held not_used))
+    copied_some c.pair.result (subst (λ (o : Option Material). IsSome o) (sym c.pair.ensures) (pair_there d.table.now c.args.key (unused_key d d.hold (stand_of (shown_of d).events) c.args.key sound.held held not_used)))

@@ -4,11 +4,11 @@ use Rattle.ov_serial.specs.contracts.desk.SerialDesk.{the_view}
 use Rattle.std.specs.Prelude.{Some}
 use Rattle.ov_model.specs.Step.{may_act}
 use Rattle.ov_model.specs.Events.{Event, Stepped, release_of}
-use Rattle.ov_path.specs.Desks.{Shown, first_owed, after_first, Grows}
+use Rattle.ov_path.specs.Desks.{first_owed}
 use Rattle.ov_table.specs.Recorded.{stepped}
 use Rattle.ov_serial.specs.Desks.{Serial, Sound, Happened, shown_of, material_of_desk, release_call, after_release}
 use Rattle.ov_serial.proofs.Resting.{key_of_more}
-use Rattle.ov_serial.proofs.Marking.{MarkDone, same_desk, one_less}
+use Rattle.ov_serial.proofs.Marking.{MarkDone, did_at, same_desk, one_less}
 use Rattle.ov_serial.proofs.Giving.{release_may, release_done}
 use Rattle.ov_serial.proofs.desk.SerialDeskDesk.release.Goals as goal
 
@@ -33,7 +33,7 @@ sound_was c = c.self.invariant
 first : (c : goal.Joined-reply) → first_owed (shown_of (was c)).owing ≡ Some c.args.owed
 first c = subst (λ (d : Serial). first_owed (shown_of d).owing ≡ Some c.args.owed) (sym c.self.view_is) c.requires.first
 
-done : (c : goal.Joined-reply) → MarkDone (was c) (after_release (was c) c.args.place c.args.at c.args.owed) (Stepped (release_of c.args.place c.args.at c.args.owed)) (was c).hold (after_first (shown_of (was c)).owing)
+done : (c : goal.Joined-reply) → MarkDone (was c) (Stepped (release_of c.args.place c.args.at c.args.owed)) (after_release (was c) c.args.place c.args.at c.args.owed)
 done c = release_done (was c) c.args.place c.args.at c.args.owed (sound_was c) (first c)
 
 table_is : (c : goal.Joined-reply) → c.step.new.self ≡ stepped (was c).table c.args.place (release_call c.args.at c.args.owed)
@@ -53,21 +53,5 @@ step-requires c =
 pub invariant_of-self : goal.invariant_of-self
 invariant_of-self c = subst Sound (sym (is c)) (done c).sound
 
-left : (d : Serial) → Event → Shown
-left d event = record { events = (shown_of d).events ++ event ∷ []; hold = d.hold; owing = after_first (shown_of d).owing }
-
-pub returns-clause-event : goal.returns-clause-event
-unfolding left
-returns-clause-event c =
-    let shown : shown_of (now c) ≡ left (was c) (Stepped (release_of c.args.place c.args.at c.args.owed)) = ap shown_of (is c) ∙ (done c).shown_is in
-    subst (λ (d : Serial). shown_of (now c) ≡ left d (Stepped (release_of c.args.place c.args.at c.args.owed))) c.self.view_is shown
-
-pub returns-clause-done : goal.returns-clause-done
-returns-clause-done c =
-    let made : Happened (was c) (Stepped (release_of c.args.place c.args.at c.args.owed)) (now c) = subst (λ (e : Serial). Happened (was c) (Stepped (release_of c.args.place c.args.at c.args.owed)) e) (sym (is c)) (done c).done in
-    subst (λ (d : Serial). Happened d (Stepped (release_of c.args.place c.args.at c.args.owed)) (now c)) c.self.view_is made
-
-pub returns-clause-grows : goal.returns-clause-grows
-returns-clause-grows c =
-    let grows : Grows (material_of_desk (was c)) (material_of_desk (now c)) = λ key m k. rw (table_is c) (key_of_more (was c).table.journal _ key m k) in
-    subst (λ (d : Serial). Grows (material_of_desk d) (material_of_desk (now c))) c.self.view_is grows
+pub returns-clause-released : goal.returns-clause-released
+returns-clause-released c = did_at c.self.view_is (is c) refl (done c).did

@@ -8,9 +8,9 @@ use Rattle.ov_serial.specs.Pasts.{Past}
 use Rattle.ov_model.specs.Events.{Judged, Judgement}
 use Rattle.ov_model.specs.Next.{stand_of}
 use Rattle.ov_model.specs.Replay.{judged}
-use Rattle.ov_path.specs.Desks.{HoldsKey, IsLooked, with_event}
+use Rattle.ov_path.specs.Desks.{HoldsKey, IsLooked, judged_at}
 use Rattle.ov_serial.specs.Desks.{Serial, Sound, Happened, shown_of, judgement_at, after_judged}
-use Rattle.ov_serial.proofs.Marking.{MarkDone, replay_done, same_desk, read_shard, below_eight, room_left}
+use Rattle.ov_serial.proofs.Marking.{MarkDone, did_at, replay_done, same_desk, read_shard, below_eight, room_left}
 use Rattle.ov_serial.proofs.desk.SerialDeskDesk.replay.Goals as goal
 
 abbrev was : (c : goal.After-push) → Serial
@@ -34,17 +34,13 @@ sound_was c = c.self.invariant
 shard_is : (c : goal.After-push) → slice_get (was c).shards (c.args.key % 8) ≡ Some c.index_mut.result.now
 shard_is c = read_shard (was c).shards (c.args.key % 8) c.index_mut.result.now (below_eight (was c) c.args.key (sound_was c)) c.index_mut.ensures.value
 
-done : (c : goal.After-push) → MarkDone (was c) (after_judged (was c) c.index_mut.result.now c.args.place c.args.key c.args.id c.args.at) (Judged (judgement_at c.index_mut.result.now c.args.place c.args.key c.args.id c.args.at)) (was c).hold (shown_of (was c)).owing
+done : (c : goal.After-push) → MarkDone (was c) (Judged (judgement_at c.index_mut.result.now c.args.place c.args.key c.args.id c.args.at)) (after_judged (was c) c.index_mut.result.now c.args.place c.args.key c.args.id c.args.at)
 done c = replay_done (was c) c.index_mut.result.now c.args.place c.args.key c.args.id c.args.at (sound_was c)
     (subst (λ (d : Serial). HoldsKey d.hold c.args.key) (sym c.self.view_is) c.requires.held)
     (subst (λ (d : Serial). IsLooked (stand_of (shown_of d).events)) (sym c.self.view_is) c.requires.looked) (shard_is c)
 
 verdict_is : (c : goal.After-push) → c.in_ok-verdict.verdict ≡ (judged c.index_mut.result.now.entries c.args.place c.args.key c.args.id c.args.at).verdict
 verdict_is c = c.in_ok-verdict.ensures.verdict
-
--- The judgement with a verdict.
-judgement : (c : goal.After-push) → Verdict → Judgement
-judgement c v = record { place = c.args.place; key = c.args.key; id = c.args.id; at = c.args.at; verdict = v }
 
 is : (c : goal.After-push) → now c ≡ after_judged (was c) c.index_mut.result.now c.args.place c.args.key c.args.id c.args.at
 is c = same_desk (now c) (after_judged (was c) c.index_mut.result.now c.args.place c.args.key c.args.id c.args.at) refl
@@ -57,15 +53,4 @@ pub invariant_of-self-2 : goal.invariant_of-self-2
 invariant_of-self-2 c = subst Sound (sym (is c)) (done c).sound
 
 pub returns-clause-ok : goal.returns-clause-ok
-unfolding judgement
-returns-clause-ok c =
-    let shown : shown_of (now c) ≡ with_event (shown_of (was c)) (Judged (judgement c c.in_ok-verdict.verdict)) =
-    ap shown_of (is c) ∙ (done c).shown_is ∙ ap (λ v. with_event (shown_of (was c)) (Judged (judgement c v))) (sym (verdict_is c)) in
-    subst (λ (d : Serial). shown_of (now c) ≡ with_event (shown_of d) (Judged (judgement c c.in_ok-verdict.verdict))) c.self.view_is shown
-
-pub returns-clause-done : goal.returns-clause-done
-unfolding judgement
-returns-clause-done c =
-    let first : Happened (was c) (Judged (judgement c (judged c.index_mut.result.now.entries c.args.place c.args.key c.args.id c.args.at).verdict)) (now c) = subst (λ (e : Serial). Happened (was c) (Judged (judgement c (judged c.index_mut.result.now.entries c.args.place c.args.key c.args.id c.args.at).verdict)) e) (sym (is c)) (done c).done in
-    let made : Happened (was c) (Judged (judgement c c.in_ok-verdict.verdict)) (now c) = subst (λ v. Happened (was c) (Judged (judgement c v)) (now c)) (sym (verdict_is c)) first in
-    subst (λ (d : Serial). Happened d (Judged (judgement c c.in_ok-verdict.verdict)) (now c)) c.self.view_is made
+returns-clause-ok c = did_at c.self.view_is (is c) (ap (λ v. judged_at c.args.place c.args.key c.args.id c.args.at v) (verdict_is c)) (done c).did

@@ -5,13 +5,13 @@ use Rattle.ov_model.specs.declared.reply.Reply.{Reply}
 use Rattle.ov_model.specs.declared.place.Place.{Place}
 use Rattle.ov_model.specs.declared.act.Call.{Call}
 use Rattle.ov_model.specs.Lifetime.{key_made_by}
-use Rattle.ov_path.specs.Desks.{MayCall, Called, Grows}
+use Rattle.ov_path.specs.Desks.{MayCall}
 use Rattle.ov_serial.specs.declared.past.Mark.TheVariants as mark
 use Rattle.ov_serial.specs.contracts.desk.SerialDesk.{the_view}
 use Rattle.ov_serial.specs.Pasts.{Past}
 use Rattle.ov_serial.specs.Desks.{Serial, Sound, Happened, shown_of, material_of_desk, holding, after_step}
 use Rattle.ov_serial.proofs.Marking.{same_desk, room_left}
-use Rattle.ov_serial.proofs.Calling.{CallDone}
+use Rattle.ov_serial.proofs.Calling.{CallDone, called_at}
 use Rattle.ov_serial.proofs.Steps.{any_call_done}
 use Rattle.ov_serial.proofs.desk.SerialDeskDesk.table.Goals as goal
 
@@ -50,17 +50,4 @@ pub invariant_of-self-2 : goal.invariant_of-self-2
 invariant_of-self-2 c = subst Sound (sym (is c)) (done c).sound
 
 pub returns-clause-ok : goal.returns-clause-ok
-returns-clause-ok c =
-    let place : Place = c.args.place in
-    let call : Call = c.args.call.now in
-    let r : Reply = c.in_ok-reply.reply in
-    let first : Called (λ x f. Happened (was c) x f) (shown_of (was c)) place call r (material_of_desk (now c)) (shown_of (now c)) (now c) =
-    subst (λ (e : Serial). Called (λ x f. Happened (was c) x f) (shown_of (was c)) place call r (material_of_desk e) (shown_of e) e) (sym (is c)) (done c).called in
-    let second : Called (λ x f. Happened c.args.self.now x f) (shown_of c.args.self.now) place call r (material_of_desk (now c)) (shown_of (now c)) (now c) =
-    subst (λ (d : Serial). Called (λ x f. Happened d x f) (shown_of d) place call r (material_of_desk (now c)) (shown_of (now c)) (now c)) c.self.view_is first in
-    second
-
-pub returns-clause-grows : goal.returns-clause-grows
-returns-clause-grows c =
-    let grows : Grows (material_of_desk (was c)) (material_of_desk (now c)) = subst (λ (e : Serial). Grows (material_of_desk (was c)) (material_of_desk e)) (sym (is c)) (done c).grows in
-    subst (λ (d : Serial). Grows (material_of_desk d) (material_of_desk (now c))) c.self.view_is grows
+returns-clause-ok c = called_at c.self.view_is (is c) (done c).called
