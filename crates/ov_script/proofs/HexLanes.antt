@@ -1,5 +1,5 @@
 -- Digits by lanes: what a lane computes is what its digit stands for, and pairs of lanes are the bytes.
-use Rattle.std.proofs.Common.{◌^◌, ◌≡◌, ◌∙◌, ℕ, zero, suc, ◌+◌, ◌*◌, ◌<◌, ◌≤◌, ◌/◌, ◌%◌, cond, List, [], ◌∷◌, ◌++◌, length, get_or, Bool, true, false, Option, Some, None, ◌⊎◌, inl, inr, Ok, refl, sym, ap, ap₂, subst, append_assoc, length-append, arith}
+use Rattle.std.proofs.Common.{◌^◌, ◌≡◌, ◌∙◌, ℕ, zero, suc, ◌+◌, ◌*◌, ◌<◌, ◌≤◌, ◌/◌, ◌%◌, cond, List, [], ◌∷◌, ◌++◌, length, get_or, Bool, true, false, Option, Some, None, inl, inr, Ok, refl, sym, ap, ap₂, subst, append_assoc, length-append, arith}
 use Rattle.std.specs.Prelude.{map, unwrap_or}
 use Rattle.std.specs.List.{range_with_len}
 use Rattle.std.proofs.lemmas.Bool.{cases_eq}

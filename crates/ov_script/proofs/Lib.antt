@@ -2,6 +2,8 @@ pub mod Cutting
 pub mod PlainText
 pub mod TxText
 pub mod RxText
+pub mod PeerText
+pub mod KeyText
 pub mod Fitting
 pub mod HexLanes
 pub mod Judging

@@ -2,6 +2,8 @@
 #![tactic(auto)]
 
 pub mod compact;
+pub mod compact_key;
+pub mod compact_peer;
 pub mod compact_rx;
 pub mod compact_tx;
 pub mod digits;

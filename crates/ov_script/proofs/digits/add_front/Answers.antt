@@ -2,7 +2,7 @@
 use Rattle.std.proofs.Common.{◌≡◌, ◌++◌, ℕ, List, sym, subst}
 use Rattle.std.proofs.lemmas.List.{take-append-drop}
 use Rattle.ov_script.specs.Digits.{ReadTo}
-use Rattle.ov_script.proofs.HexLanes.{read_more, read_none}
+use Rattle.ov_script.proofs.HexLanes.{read_more}
 use Rattle.ov_script.proofs.digits.add_front.Goals as goal
 
 pub turns-preserved : goal.turns-preserved

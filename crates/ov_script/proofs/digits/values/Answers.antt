@@ -1,5 +1,5 @@
 -- Each lane is computed from its digit, and so for each of the 256 bytes.
-use Rattle.std.proofs.Common.{◌≡◌, ◌∙◌, ℕ, map, refl, sym, ap}
+use Rattle.std.proofs.Common.{◌≡◌, ◌∙◌, ℕ, map, refl, ap}
 use Rattle.std.proofs.lemmas.Simd.{zip2_of_maps, splat_is_map, map-map}
 use lib.Lanes.{top}
 use lib.ListN.{replicate}
