@@ -1,8 +1,8 @@
 -- The test whether keys differ tells exactly whether they do.
 use Rattle.std.proofs.Common.{◌≡◌, Bool, true, false, ◌&&◌, ◌||◌, List, [], ◌∷◌, refl, sym, ap, ◌∙◌, true≢false}
-use Rattle.std.specs.Prelude.{not, ◌↔◌, codes, Option, Some}
+use Rattle.std.specs.Prelude.{not, ◌↔◌, codes, Some}
 use Rattle.std.specs.List.{IsDistinct, AllByRecursion, list_any}
-use Rattle.serde_json.specs.Data.{Data, boolean}
+use Rattle.serde_json.specs.Data.{boolean}
 use Rattle.ov_model.specs.declared.report.Report.{Report}
 use Rattle.ov_model.specs.declared.command.KeyDir.{KeyDir}
 use Rattle.ov_model.specs.declared.entry.Entry.{Entry}

@@ -1,8 +1,7 @@
 -- The texts of a report's lines as the pieces that they are put together of.
-use Rattle.std.proofs.Common.{ℕ, ◌≡◌, ◌<◌, ◌∙◌, List, [], ◌∷◌, ◌++◌, refl, sym, ap, append_assoc}
+use Rattle.std.proofs.Common.{ℕ, ◌≡◌, ◌∙◌, List, ◌++◌, refl, sym, ap, append_assoc}
 use Rattle.std.specs.Prelude.{codes, decimal, Result, OnOk}
 use Rattle.std.proofs.lemmas.Result.{on_ok_weaker}
-use Rattle.std.specs.Net.Text.{ipv4_text}
 use Rattle.json.specs.Print.{escape}
 use Rattle.hex.specs.Hex.{encode_lower}
 use Rattle.serde_json.specs.Written.{compact_text}

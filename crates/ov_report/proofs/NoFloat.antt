@@ -8,19 +8,14 @@ use Rattle.serde_json.specs.View.{items_of}
 use Rattle.serde_json.specs.Written.{has_float, members_have_float, items_have_float}
 use Rattle.ov_base.specs.declared.address.Addr.{Addr}
 use Rattle.ov_base.specs.declared.address.Addr.TheVariants.{V4, V6}
-use Rattle.ov_model.specs.declared.entry.Entry.{Entry}
 use Rattle.ov_model.specs.declared.reply.PeerView.{PeerView}
 use Rattle.ov_model.specs.declared.reply.Counts.{Counts}
 use Rattle.ov_model.specs.declared.reply.Reply.{Reply}
 use Rattle.ov_model.specs.declared.reply.Reply.TheVariants as reply
-use Rattle.ov_model.specs.declared.answer.Answer.{Answer}
-use Rattle.ov_model.specs.declared.answer.Answer.TheVariants as answer
 use Rattle.ov_model.specs.declared.note.Note.{Note}
 use Rattle.ov_model.specs.declared.note.NoteBody.{NoteBody}
 use Rattle.ov_model.specs.declared.note.NoteBody.TheVariants as body
-use Rattle.ov_model.specs.declared.answer.SealedOut.{SealedOut}
-use Rattle.ov_model.specs.declared.replay.ReplayEntry.{ReplayEntry}
-use Rattle.ov_report.specs.Print.{num, put_num, put_text, call_name, put_remote_addr, put_vpn4, put_vpn6, put_counts, view_members, reply_data, sealed_members, answer_data, entry_data, answered_data, note_members, note_data, replay_data}
+use Rattle.ov_report.specs.Print.{num, put_num, put_remote_addr, put_vpn4, put_vpn6, put_counts, view_members, reply_data, note_members, note_data}
 
 or_left : (a b : Bool) → (a || b) ≡ false → a ≡ false
 or_left true b h = h
@@ -100,33 +95,6 @@ reply_no_float (reply.Released n) = refl
 reply_no_float (reply.KeyReleased n) = refl
 reply_no_float (reply.Refused e) = refl
 
-sealed_no_float : (s : SealedOut) → members_have_float (sealed_members s) ≡ false
-unfolding sealed_members
-sealed_no_float s = refl
-
-pub answer_no_float : (a : Answer) → has_float (answer_data a) ≡ false
-answer_no_float (answer.Reply r) = reply_no_float r
-answer_no_float (answer.Sealed s) = rw (sealed_no_float s) refl
-answer_no_float (answer.Delivered peer packet) = refl
-answer_no_float (answer.Keepalive id) = refl
-answer_no_float answer.Control = refl
-answer_no_float (answer.Dropped c) = refl
-
-pub entry_no_float : (n : ℕ) (e : Entry) → has_float (entry_data n e) ≡ false
-unfolding entry_data
-entry_no_float n e = put_no_float (codes "reply") (reply_data e.reply)
-    (put_num (codes "line") e.place.line (put_num (codes "lane") e.place.lane (put_num (codes "journal") n (put_text (codes "call") (call_name e.call.act) (put_num (codes "at") e.call.at no_members)))))
-    (reply_no_float e.reply) refl
-
-pub answered_no_float : (lane line : ℕ) (a : Answer) → has_float (answered_data lane line a) ≡ false
-unfolding answered_data
-answered_no_float lane line a =
-    let answered : Members = put (codes "answer") (answer_data a) no_members in
-    let numbered : Members = put_num (codes "lane") lane answered in
-    put_no_float (codes "line") (num line) numbered refl
-    (put_no_float (codes "lane") (num lane) answered refl
-    (put_no_float (codes "answer") (answer_data a) no_members (answer_no_float a) refl))
-
 body_no_float : (b : NoteBody) → members_have_float (note_members b) ≡ false
 body_no_float (body.PeerDel id r) = refl
 body_no_float (body.KeySwap id key_id) = refl
@@ -134,7 +102,3 @@ body_no_float (body.KeySwap id key_id) = refl
 pub note_no_float : (n : Note) → has_float (note_data n) ≡ false
 unfolding note_data
 note_no_float n = put_no_float (codes "journal") (num n.entry) (note_members n.body) refl (body_no_float n.body)
-
-pub replay_no_float : (shard : ℕ) (r : ReplayEntry) → has_float (replay_data shard r) ≡ false
-unfolding replay_data
-replay_no_float shard r = refl

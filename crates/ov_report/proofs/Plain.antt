@@ -2,7 +2,7 @@
 use Rattle.std.proofs.Common.{ℕ, zero, suc, ◌≡◌, ◌<◌, ◌/◌, ◌%◌, ◌+◌, ◌∙◌, List, [], ◌∷◌, ◌++◌, length, get_or, slice_index, refl, sym, ap, append_assoc, arith, inl, inr, Fits, w8}
 use Rattle.std.specs.Prelude.{codes, decimal}
 use Rattle.std.specs.Fmt.{digits}
-use Rattle.std.specs.Net.Text.{ipv4_text, dotted_text}
+use Rattle.std.specs.Net.Text.{ipv4_text}
 use Rattle.std.proofs.lemmas.Bool.{cases_lt}
 use Rattle.std.proofs.lemmas.List.Concat.{flat_map-append}
 use Rattle.json.specs.Print.{escape, escape_byte}

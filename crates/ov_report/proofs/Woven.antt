@@ -1,12 +1,12 @@
 -- The digits of bytes, sixteen bytes at a time.
-use Rattle.std.proofs.Common.{ℕ, zero, suc, ◌≡◌, ◌<◌, ◌≤◌, ◌+◌, ◌*◌, ◌/◌, ◌%◌, ◌^◌, ◌∙◌, ◌||◌, List, [], ◌∷◌, ◌++◌, map, length, get_or, slice_index, take, drop, take-append-drop, replicate, bit_and, cond, refl, sym, ap, subst, arith, Fits, w8, append_assoc, append-nil, ◌-◌, length-drop, false, leb}
+use Rattle.std.proofs.Common.{ℕ, suc, ◌≡◌, ◌<◌, ◌≤◌, ◌+◌, ◌*◌, ◌/◌, ◌%◌, ◌^◌, ◌∙◌, List, [], ◌∷◌, ◌++◌, map, length, get_or, slice_index, take, drop, take-append-drop, replicate, bit_and, cond, refl, sym, ap, subst, arith, Fits, w8, append_assoc, append-nil, ◌-◌, length-drop, false, leb}
 use Rattle.std.specs.Simd.Lanes.{zip2, Each1, pick_l}
 use Rattle.std.proofs.lemmas.Bool.{lt-leb}
 use Rattle.std.proofs.lemmas.List.{length-map}
 use Rattle.std.proofs.lemmas.List.{take_more}
 use Rattle.std.proofs.Math.Seq.{take-add, take-length}
 use Rattle.std.proofs.lemmas.Nat.{and_mask}
-use Rattle.std.proofs.lemmas.Simd.{swz_l, SwzOk, SwzOk-from_below, zip2_splat, length-zip2, pick_l_whole, map-map}
+use Rattle.std.proofs.lemmas.Simd.{swz_l, SwzOk, SwzOk-from_below, zip2_splat, pick_l_whole, map-map}
 use Rattle.hex.specs.Hex.{encode_lower, encode_with, lower_digits}
 
 pub encode-append : (xs ys : List ℕ) → encode_lower (xs ++ ys) ≡ encode_lower xs ++ encode_lower ys

@@ -19,7 +19,13 @@ pub(crate) trait Listed {
     ghost text: { ℕ → ℕ → Self → List ℕ };
 
     /// Puts the line, with its end, at the end of a page.
-    fn append(&self, alloc: Global, owner: u32, number: u64, page: &mut Vec<u8>) -> Result<(), Memory>
+    fn append(
+        &self,
+        alloc: Global,
+        owner: u32,
+        number: u64,
+        page: &mut Vec<u8>,
+    ) -> Result<(), Memory>
         ensures text { OnOk result (page.new.items ≡ page.old.items ++ text owner number self.now) }
         ensures some { 0 < length (text owner number self.now) };
 }

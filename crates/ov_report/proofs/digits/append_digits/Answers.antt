@@ -1,5 +1,5 @@
 -- The blocks and the rest; no digit is escaped.
-use Rattle.std.proofs.Common.{◌≡◌, ◌++◌, take, drop, append_assoc}
+use Rattle.std.proofs.Common.{take, drop, append_assoc}
 use Rattle.hex.specs.Hex.{encode_lower}
 use Rattle.ov_report.proofs.Plain.{digits_plain}
 use Rattle.ov_report.proofs.Woven.{all_bytes, lent}

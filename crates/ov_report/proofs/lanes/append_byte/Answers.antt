@@ -1,6 +1,5 @@
 -- The two digits of a byte, by their places.
-use Rattle.std.proofs.Common.{◌++◌, [], ◌∷◌, ◌∙◌, ap}
-use Rattle.hex.specs.Hex.{encode_lower}
+use Rattle.std.proofs.Common.{◌++◌, ◌∙◌, ap}
 use Rattle.ov_report.proofs.Woven.{byte_digits}
 use Rattle.ov_report.proofs.lanes.append_byte.Goals as goal
 
