@@ -1,7 +1,8 @@
 -- What is known of a run's report, and of the lines that were counted.
-use Rattle.std.proofs.Common.{ℕ, ◌≡◌, ◌<◌, List, [], ◌∷◌, length, refl, sym, ap, ◌∙◌, arith}
+use Rattle.std.proofs.Common.{ℕ, ◌≡◌, ◌<◌, List, [], ◌∷◌, ◌++◌, append-nil, subst, length, refl, sym, ap, ◌∙◌, arith}
 use Rattle.std.specs.Prelude.{Option, Some, None, Err, IfSome}
 use Rattle.std.specs.List.{AllByRecursion}
+use Rattle.std.specs.Io.KnownBytes.{IsAtEnd}
 use Rattle.ov_model.specs.declared.line.Line.{Line}
 use Rattle.ov_model.specs.declared.line.Script.{Script}
 use Rattle.ov_model.specs.declared.report.Report.{Report}
@@ -9,9 +10,9 @@ use Rattle.ov_model.specs.declared.report.LaneLog.{LaneLog}
 use Rattle.ov_model.specs.Keys.{IdsCount, key_of}
 use Rattle.ov_model.specs.Legal.{Legal, JournalRuns, LinesFollowPath, RemovalsAreNoted, ShardsJudge}
 use Rattle.ov_model.specs.Removals.{AllReleased}
-use Rattle.ov_script.specs.Reading.{AreLines, Gave, IsScript, HasNoStop, Counts, whole_lines}
+use Rattle.ov_script.specs.Reading.{AreLines, Gave, GaveSome, IsScript, HasNoStop, Counts, whole_lines}
 use Rattle.ov_serial.specs.Lines.{IsWhole}
-use Rattle.ov_run.specs.Clauses.{Answered, Reported, EndsBy, Counted, CountedRun, cause_of_stop}
+use Rattle.ov_run.specs.Clauses.{Answered, Read, Reported, EndsBy, Counted, CountedRun, cause_of_stop}
 use Rattle.ov_script.specs.declared.script.ReadStop.{ReadStop}
 use Rattle.ov_script.specs.declared.script.ReadStop.TheVariants as stop
 use Rattle.ov_run.specs.declared.ended.Cause.{Cause}
@@ -35,9 +36,9 @@ all_answered lines (log ∷ logs) whole = (
 -- What is known of a report, as one fact: it is legal where the bytes that were read are its script's.
 pub reported : (before now : Option (List ℕ)) (report : Option Report) (script : Script) → IfSome report JournalRuns → IfSome report RemovalsAreNoted → IfSome report (λ r. AllReleased r.journal) → IfSome report ShardsJudge → IfSome report (IdsCount 1)
     → IfSome report (λ r. length r.lanes ≡ 1) → IfSome report (λ r. AllByRecursion (IsWhole script.lines) r.lanes) → IfSome report (λ r. LinesFollowPath (key_of r.journal) (λ a. a) r) → IfSome report (λ r. AllByRecursion (λ line. line.lane < 1) script.lines → Legal script 1 r)
-    → ((taken : List ℕ) → Gave before now taken → (now ≡ Some []) × IsScript taken 1 script) → ((taken : List ℕ) → Gave before now taken → HasNoStop taken 1) → IfSome report (Reported before now)
-reported before now None script runs noted released shards ids one whole follow legal read no_stop = tt
-reported before now (Some r) script runs noted released shards ids one whole follow legal read no_stop = record {
+    → IsAtEnd now → ((taken : List ℕ) → Gave before now taken → (now ≡ Some []) × IsScript taken 1 script) → ((taken : List ℕ) → Gave before now taken → HasNoStop taken 1) → IfSome report (Reported before now)
+reported before now None script runs noted released shards ids one whole follow legal ended read no_stop = tt
+reported before now (Some r) script runs noted released shards ids one whole follow legal ended read no_stop = record {
   runs = runs;
   removals = noted;
   released = released;
@@ -46,6 +47,7 @@ reported before now (Some r) script runs noted released shards ids one whole fol
   one_lane = one;
   answered = all_answered script.lines r.lanes whole;
   follow = follow;
+  ended = ended;
   read = λ taken gave. let its : (now ≡ Some []) × IsScript taken 1 script = read taken gave in
       (its.0, record { no_stop = no_stop taken gave; script = script; is_script = its.1; legal = legal (read_within (whole_lines taken) script.lines its.1.lines) });
 }
@@ -81,3 +83,13 @@ stop_counted taken good stop.Read is = is
 stop_counted taken good (stop.Bad n) is = is
 stop_counted taken good (stop.Limit l) is = is
 stop_counted taken good stop.Memory is = tt
+
+-- A source that told what it held, and is at its end, gave all of it: so a report is legal for its script.
+pub read_all : (held now : List ℕ) (report : Option Report) → GaveSome (Some held) (Some now) → IfSome report (Reported (Some held) (Some now)) → IfSome report (Read held)
+read_all held now None gave is = tt
+read_all held now (Some r) gave is =
+    let P : List ℕ → Type 0 = λ b. Read b r in
+    let had : held ≡ gave.0 ++ gave.1.left = cc (gave.1.had) in
+    let left : gave.1.left ≡ [] = cc (gave.1.has, is.ended) in
+    let all : gave.0 ≡ held = sym (append-nil gave.0) ∙ ap (λ (l : List ℕ). gave.0 ++ l) (sym left) ∙ sym had in
+    subst P all (is.read gave.0 gave.1).1

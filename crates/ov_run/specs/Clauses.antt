@@ -3,7 +3,7 @@
 use Rattle.std.specs.Prelude.{None, ℕ, ◌+◌, ◌<◌, ◌≡◌, ◌⊎◌, List, [], ◌∷◌, length, map, codes, Option, Some, String, string_bytes, ⊤}
 use Rattle.std.specs.List.{AllByRecursion}
 use Rattle.std.specs.declared.alloc.Global.{Global}
-use Rattle.std.specs.Io.KnownBytes.{Appends, Keeps}
+use Rattle.std.specs.Io.KnownBytes.{Appends, IsAtEnd, Keeps}
 use Rattle.ov_base.specs.Outside.{Rose}
 use Rattle.ov_base.specs.Loops.{AppendsPart}
 use Rattle.ov_model.specs.declared.line.Script.{Script}
@@ -78,6 +78,7 @@ pub record Reported (before now : Option (List ℕ)) (report : Report) : Type 0 
   pub one_lane : length report.lanes ≡ 1
   pub answered : AllByRecursion Answered report.lanes
   pub follow : LinesFollowPath (key_of report.journal) (λ a. a) report
+  pub ended : IsAtEnd now
   pub read : (taken : List ℕ) → Gave before now taken → (now ≡ Some []) × Read taken report
 
 -- Where a report's text was written whole, or a part of it.

@@ -1,6 +1,6 @@
 //! How a run of the program ended.
 
-ghost use Rattle.std.specs.Prelude.{◌≡◌};
+ghost use Rattle.std.specs.Prelude.{◌≡◌, None};
 
 use ov_model::Report;
 use ov_script::Limit;
@@ -20,7 +20,7 @@ pub enum Cause {
     ReadFault,
     /// A write failed: a part of the report's text was written.
     WriteFault,
-    /// Want of memory: nothing was written.
+    /// Want of memory: nothing was written, or a part of the report's text, from its front.
     Memory,
 }
 
@@ -36,6 +36,17 @@ pub struct Ended {
 
 impl Ended {
     ghost use Rattle.ov_run.specs.Status.{status_of};
+
+    /// The end of a run that ended before anything was read.
+    pub fn unrun(cause: Cause) -> Ended
+        ensures { result ≡ record { cause = cause; read_lines = 0; report = None } }
+    {
+        Ended {
+            cause,
+            read_lines: 0,
+            report: None,
+        }
+    }
 
     /// The exit status of the program.
     pub fn status(&self) -> u8

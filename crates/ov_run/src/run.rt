@@ -1,6 +1,7 @@
 //! The top call: words, script, run, report.
 
 ghost use Rattle.std.specs.Prelude.{◌≡◌, ◌≢◌, ◌<◌, ◌↔◌, ℕ, List, None, length, IsTrue, IfSome};
+ghost use Rattle.std.specs.Io.KnownBytes.{IsAtEnd};
 ghost use Rattle.std.specs.List.{AllByRecursion};
 ghost use Rattle.ov_base.specs.Outside.{Rose};
 ghost use Rattle.ov_model.specs.Keys.{IdsCount, key_of};
@@ -15,9 +16,9 @@ ghost use Rattle.ov_run.specs.Clauses as spec;
 use crate::ended::{Cause, Ended};
 use ov_base::{Sink, Source};
 use ov_model::Script;
+use ov_report::{PrintStop, print_report};
 use ov_script::{ReadStop, Reading, read_script};
 use ov_serial::run_script;
-use ov_report::{PrintStop, print_report};
 use std::alloc::Global;
 
 /// The first packet id that each key sends: a nonce of 0 is never used.
@@ -50,6 +51,7 @@ fn trace<K: Sink>(alloc: Global, script: Script, read_lines: u64, sink: &mut K) 
     requires fits { AllByRecursion (λ line. Fits line.deed) script.lines }
     ensures lines { result.read_lines ≡ read_lines }
     ensures cause { spec.Ran (K.written sink.old) (K.written sink.new) (K.faults sink.old) (K.faults sink.new) result }
+    ensures kept { result.cause ≡ cause.Fine → K.faults sink.new ≡ K.faults sink.old }
     ensures runs { IfSome result.report JournalRuns }
     ensures noted { IfSome result.report RemovalsAreNoted }
     ensures released { IfSome result.report (λ report. AllReleased report.journal) }
@@ -93,9 +95,16 @@ pub fn run_serial<S: Source, K: Sink>(
     source: &mut S,
     sink: &mut K,
 ) -> Ended
-    // Usage: exactly where the words aren't a plan, and nothing is read or written.
+    // Usage: exactly where the words aren't a plan, and nothing is read, run or written.
     ensures usage { (result.cause ≡ cause.Usage) ↔ ¬ (spec.IsTrace words.now) }
-    ensures unread { result.cause ≡ cause.Usage → (source.new ≡ source.old) × (sink.new ≡ sink.old) }
+    ensures unread { result.cause ≡ cause.Usage → (result.report ≡ None) × (source.new ≡ source.old) × (sink.new ≡ sink.old) }
+
+    // Bytes: a source that tells what it has left tells which bytes were taken, and after a run that ended
+    // well it has none left. A fault is exactly what was counted.
+    ensures taken { reading.GaveSome (S.left source.old) (S.left source.new) }
+    ensures ended { result.cause ≡ cause.Fine → IsAtEnd (S.left source.new) }
+    ensures kept { result.cause ≢ cause.ReadFault → S.faults source.new ≡ S.faults source.old }
+    ensures sink_kept { result.cause ≡ cause.Fine → K.faults sink.new ≡ K.faults sink.old }
 
     // Stops: a bad line or a limit comes from the bytes, a read fault from the source, and then nothing
     // is run or written. Conversely, what the bytes stop at is told, or want of memory: always where they

@@ -1,9 +1,17 @@
 //! Whole runs over sources and sinks in memory, in pieces of 16 bytes.
 
+ghost use Rattle.std.specs.Prelude.{IfSome};
+ghost use Rattle.ov_run.specs.Clauses.{Read};
+
+use crate::args::words_of;
 use crate::ended::{Cause, Ended};
 use crate::run::run_serial;
-use ov_base::{ListOf, Memory, MemorySink, MemorySource, Octets};
+use crate::told::tell;
+use ov_base::{ListOf, Memory, MemorySink, MemorySource, Octets, Sink};
+use ov_script::Limit;
 use std::alloc::Global;
+use std::io;
+use std::io::ErrorKind;
 use std::test::Fail;
 
 const PEER5: &str =
@@ -120,5 +128,72 @@ fn a_fault_at_any_call_is_told_and_changes_no_report(rt: HostRuntime) -> Result<
     assert_eq!(rt; status, 4);
     let (status, _) = run(rt.alloc(), "trace", PEER5.as_bytes(), &[], &[0])?;
     assert_eq!(rt; status, 5);
+    Ok(())
+}
+
+/// A run on a text in memory, in pieces of 16 bytes. Its report is legal for the text's script: what the source
+/// gave is known from what it held, and is no premise.
+fn traced<K: Sink>(alloc: Global, words: &[String], text: Octets, sink: &mut K) -> Ended
+    ensures { IfSome result.report (Read text) }
+{
+    let mut source = MemorySource::new(text, 16, ListOf::new(alloc));
+    run_serial(alloc, words, &mut source, sink)
+}
+
+#[test]
+fn a_text_in_memory_has_a_report_of_its_script(rt: HostRuntime) -> Result<(), Fail> {
+    let mut words = Vec::new(rt.alloc());
+    words.push(String::from_str(rt.alloc(), "trace")?)?;
+    let text = Octets::of(rt.alloc(), PEER5.as_bytes())?;
+    let mut sink = MemorySink::new(rt.alloc(), 16, ListOf::new(rt.alloc()));
+    let ended = traced(rt.alloc(), words.as_slice(), text, &mut sink);
+    assert_eq!(rt; ended.cause, Cause::Fine);
+    assert!(rt; ended.report.is_some());
+    Ok(())
+}
+
+#[test]
+fn each_cause_is_told_in_its_words(rt: HostRuntime) -> Result<(), Fail> {
+    let table: [(Cause, &str); 8] = [
+        (Cause::Fine, ""),
+        (Cause::Usage, "ovpn: usage: ovpn MODE [options]\n"),
+        (Cause::BadLine(1), "ovpn: line 1 is not in the grammar\n"),
+        (
+            Cause::BadLine(18_446_744_073_709_551_615),
+            "ovpn: line 18446744073709551615 is not in the grammar\n",
+        ),
+        (Cause::Limit(Limit::Bytes), "ovpn: limit bytes\n"),
+        (Cause::ReadFault, "ovpn: read fault\n"),
+        (Cause::WriteFault, "ovpn: write fault\n"),
+        (Cause::Memory, "ovpn: want of memory\n"),
+    ];
+    for (cause, text) in table {
+        let mut sink = MemorySink::new(rt.alloc(), 16, ListOf::new(rt.alloc()));
+        assert_eq!(rt; tell(cause, &mut sink), Ok(()));
+        assert_eq!(rt; sink.written(), text.as_bytes());
+    }
+    Ok(())
+}
+
+#[test]
+fn the_words_are_those_behind_the_name(rt: HostRuntime) -> Result<(), Fail> {
+    let mut given = Vec::new(rt.alloc());
+    for word in ["ovpn", "trace", "more"] {
+        given.push(String::from_str(rt.alloc(), word)?)?;
+    }
+    match words_of(rt.alloc(), Ok(given.into_iter())) {
+        Ok(words) => {
+            assert_eq!(rt; words.len(), 2);
+            assert!(rt; words[0].as_str() == "trace" && words[1].as_str() == "more");
+        }
+        Err(_) => assert!(rt; false),
+    }
+    for (kind, cause) in [
+        (ErrorKind::InvalidData, Cause::Usage),
+        (ErrorKind::OutOfMemory, Cause::Memory),
+    ] {
+        let refused: io::Result<std::env::Args> = Err(kind.into());
+        assert!(rt; words_of(rt.alloc(), refused).err() == Some(cause));
+    }
     Ok(())
 }

@@ -1,0 +1,11 @@
+-- The source gave all that it held.
+use Rattle.std.proofs.Common.{List, ℕ, subst}
+use Rattle.std.specs.Prelude.{IfSome}
+use Rattle.ov_run.specs.Clauses.{Read}
+use Rattle.ov_run.proofs.Reporting.{read_all}
+use Rattle.ov_run.proofs.tests.traced.Goals as goal
+
+pub returns : goal.returns
+returns g c =
+    let P : List ℕ → Type 0 = λ b. IfSome c.run_serial.result.report (Read b) in
+    subst P (search rules) (read_all _ _ _ c.run_serial.ensures.taken c.run_serial.ensures.outcome)
