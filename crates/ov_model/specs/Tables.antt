@@ -46,10 +46,9 @@ pub record Peer : Type 0 where
   pub last_sent : ℕ
   pub slots : Slots
 
--- The table of peers: `live` are those that packets and commands reach, `dying` the removed ones that
--- aren't let go yet, `retired` the keys that were taken out of their slots and aren't let go yet; `made`
--- and `keys_made` are how many were ever made; `moment` is the greatest moment that the table has seen, in
--- seconds.
+-- live: the peers that packets and commands reach; dying: the removed ones that aren't let go yet;
+-- retired: the keys that were taken out of their slots and aren't let go yet; made, keys_made: how many
+-- were ever made; moment: the greatest moment that the table has seen, in seconds.
 pub record Table : Type 0 where
   pub live : List Peer
   pub dying : List Peer
@@ -58,7 +57,6 @@ pub record Table : Type 0 where
   pub keys_made : ℕ
   pub moment : ℕ
 
--- The table that every history begins with.
 abbrev pub empty_table : Table
 empty_table = record { live = []; dying = []; retired = []; made = 0; keys_made = 0; moment = 0 }
 
@@ -75,30 +73,26 @@ without_first fits (x ∷ xs) = if fits x then xs else x ∷ without_first fits 
 
 -- ---- keys and slots
 
--- The slots of a new peer.
 abbrev pub no_keys : Slots
 no_keys = record { primary = None; secondary = None }
 
--- What stands in a slot.
+-- What stands in a slot, and the slots with something else in one.
 abbrev pub in_slot : Slot → Slots → Option Key
 in_slot Primary s = s.primary
 in_slot Secondary s = s.secondary
 
--- The slots with something else in one.
 abbrev pub with_slot : Slot → Option Key → Slots → Slots
 with_slot Primary k s = record s { primary = k }
 with_slot Secondary k s = record s { secondary = k }
 
--- The key of a slot as a list.
+-- The keys of the slots, the primary's first.
 abbrev pub key_if_any : Option Key → List Key
 key_if_any None = []
 key_if_any (Some k) = k ∷ []
 
--- The keys of the slots, the primary's first.
 abbrev pub keys_in : Slots → List Key
 keys_in s = key_if_any s.primary ++ key_if_any s.secondary
 
--- The serials of some keys.
 abbrev pub key_serials : List Key → List ℕ
 key_serials keys = map (λ k. k.serial) keys
 
@@ -106,16 +100,14 @@ key_serials keys = map (λ k. k.serial) keys
 abbrev pub by_key_id : KeyId → Slots → Option Key
 by_key_id id s = find (λ k. k.key_id.number == id.number) (keys_in s)
 
--- The key with a serial.
+-- The key with a serial, and the slots without it.
 abbrev pub by_key : ℕ → Slots → Option Key
 by_key key s = find (λ k. k.serial == key) (keys_in s)
 
--- Whether a slot has the key with a serial.
 abbrev pub is_key : ℕ → Option Key → Bool
 is_key key None = false
 is_key key (Some k) = k.serial == key
 
--- The slots without the key with a serial.
 abbrev pub without_key : ℕ → Slots → Slots
 without_key key s =
     if is_key key s.primary then record s { primary = None } else
@@ -147,7 +139,6 @@ has_serial serial p = p.serial == serial
 abbrev pub by_id : PeerId → List Peer → Option Peer
 by_id id peers = find (has_id id) peers
 
--- The peer with a serial.
 abbrev pub by_serial : ℕ → List Peer → Option Peer
 by_serial serial peers = find (has_serial serial) peers
 
@@ -160,12 +151,11 @@ abbrev pub same_vpn : Option (List ℕ) → Option (List ℕ) → Bool
 same_vpn (Some a) (Some b) = bytes_eq a b
 same_vpn _ _ = false
 
--- Whether a peer has a VPN address.
+-- The peer with a VPN address: the first that has it.
 abbrev pub has_vpn : Addr → Peer → Bool
 has_vpn (V4 a) p = same_vpn p.vpn4 (Some a)
 has_vpn (V6 a) p = same_vpn p.vpn6 (Some a)
 
--- The peer with a VPN address: the first that has it.
 abbrev pub by_vpn : Addr → List Peer → Option Peer
 by_vpn a peers = find (has_vpn a) peers
 
