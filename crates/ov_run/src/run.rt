@@ -50,7 +50,8 @@ fn cause_of(stop: ReadStop) -> Cause
 fn trace<K: Sink>(alloc: Global, script: Script, read_lines: u64, sink: &mut K) -> Ended
     requires fits { AllByRecursion (λ line. Fits line.deed) script.lines }
     ensures lines { result.read_lines ≡ read_lines }
-    ensures cause { spec.Ran (K.written sink.old) (K.written sink.new) (K.faults sink.old) (K.faults sink.new) result }
+    ensures cause { spec.Ran (K.written sink.old) (K.written sink.new) (K.faults sink.old)
+        (K.faults sink.new) result }
     ensures kept { result.cause ≡ cause.Fine → K.faults sink.new ≡ K.faults sink.old }
     ensures runs { IfSome result.report JournalRuns }
     ensures noted { IfSome result.report RemovalsAreNoted }
@@ -58,9 +59,12 @@ fn trace<K: Sink>(alloc: Global, script: Script, read_lines: u64, sink: &mut K) 
     ensures shards { IfSome result.report ShardsJudge }
     ensures ids { IfSome result.report (IdsCount 1) }
     ensures one_lane { IfSome result.report (λ report. length report.lanes ≡ 1) }
-    ensures whole { IfSome result.report (λ report. AllByRecursion (IsWhole script.lines) report.lanes) }
-    ensures follow { IfSome result.report (λ report. LinesFollowPath (key_of report.journal) (λ a. a) report) }
-    ensures legal { IfSome result.report (λ report. AllByRecursion (λ line. line.lane < 1) script.lines → Legal script 1 report) }
+    ensures whole { IfSome result.report (λ report.
+        AllByRecursion (IsWhole script.lines) report.lanes) }
+    ensures follow { IfSome result.report (λ report.
+        LinesFollowPath (key_of report.journal) (λ a. a) report) }
+    ensures legal { IfSome result.report (λ report.
+        AllByRecursion (λ line. line.lane < 1) script.lines → Legal script 1 report) }
 {
     let report = match run_script(alloc, script, FIRST_ID) {
         Ok(report) => report,
@@ -97,7 +101,8 @@ pub fn run_serial<S: Source, K: Sink>(
 ) -> Ended
     // Usage: exactly where the words aren't a plan, and nothing is read, run or written.
     ensures usage { (result.cause ≡ cause.Usage) ↔ ¬ (spec.IsTrace words.now) }
-    ensures unread { result.cause ≡ cause.Usage → (result.report ≡ None) × (source.new ≡ source.old) × (sink.new ≡ sink.old) }
+    ensures unread { result.cause ≡ cause.Usage →
+        (result.report ≡ None) × (source.new ≡ source.old) × (sink.new ≡ sink.old) }
 
     // Bytes: a source that tells what it has left tells which bytes were taken, and after a run that ended
     // well it has none left. A fault is exactly what was counted.
@@ -109,22 +114,39 @@ pub fn run_serial<S: Source, K: Sink>(
     // Stops: a bad line or a limit comes from the bytes, a read fault from the source, and then nothing
     // is run or written. Conversely, what the bytes stop at is told, or want of memory: always where they
     // show it while the source may go on, and else where no read failed.
-    ensures stops { (event : reading.Event) → result.cause ≡ spec.cause_of event → spec.ComesFrom (S.left source.old) (S.left source.new) event }
-    ensures read_fault { result.cause ≡ cause.ReadFault → Rose (S.faults source.old) (S.faults source.new) }
-    ensures early { (event : reading.Event) → (taken : List ℕ) → reading.Gave (S.left source.old) (S.left source.new) taken → reading.Early taken 1 event → spec.IsTold event result.cause }
-    ensures told { ¬ (Rose (S.faults source.old) (S.faults source.new)) → (event : reading.Event) → (taken : List ℕ) → reading.Gave (S.left source.old) (S.left source.new) taken → reading.Stop taken 1 event → spec.IsTold event result.cause }
-    ensures not_early { result.cause ≡ cause.ReadFault → (taken : List ℕ) → reading.Gave (S.left source.old) (S.left source.new) taken → (event : reading.Event) → ¬ (reading.Early taken 1 event) }
+    ensures stops { (event : reading.Event) → result.cause ≡ spec.cause_of event →
+        spec.ComesFrom (S.left source.old) (S.left source.new) event }
+    ensures read_fault { result.cause ≡ cause.ReadFault →
+        Rose (S.faults source.old) (S.faults source.new) }
+    ensures early { (event : reading.Event) → (taken : List ℕ) →
+        reading.Gave (S.left source.old) (S.left source.new) taken →
+        reading.Early taken 1 event → spec.IsTold event result.cause }
+    ensures told { ¬ (Rose (S.faults source.old) (S.faults source.new)) →
+        (event : reading.Event) → (taken : List ℕ) →
+        reading.Gave (S.left source.old) (S.left source.new) taken →
+        reading.Stop taken 1 event → spec.IsTold event result.cause }
+    ensures not_early { result.cause ≡ cause.ReadFault → (taken : List ℕ) →
+        reading.Gave (S.left source.old) (S.left source.new) taken →
+        (event : reading.Event) → ¬ (reading.Early taken 1 event) }
     ensures unrun { spec.IsStop result.cause → (result.report ≡ None) × (sink.new ≡ sink.old) }
 
     // The report, and what is written of its text.
     ensures outcome { IfSome result.report (spec.Reported (S.left source.old) (S.left source.new)) }
-    ensures fine { result.cause ≡ cause.Fine → spec.Wrote (K.written sink.old) (K.written sink.new) result.report }
-    ensures write_fault { result.cause ≡ cause.WriteFault → Rose (K.faults sink.old) (K.faults sink.new) × spec.WrotePart (K.written sink.old) (K.written sink.new) result.report }
-    ensures memory { result.cause ≡ cause.Memory → spec.WroteNoMore (K.written sink.old) (K.written sink.new) result.report }
+    ensures fine { result.cause ≡ cause.Fine →
+        spec.Wrote (K.written sink.old) (K.written sink.new) result.report }
+    ensures write_fault { result.cause ≡ cause.WriteFault →
+        Rose (K.faults sink.old) (K.faults sink.new) ×
+        spec.WrotePart (K.written sink.old) (K.written sink.new) result.report }
+    ensures memory { result.cause ≡ cause.Memory →
+        spec.WroteNoMore (K.written sink.old) (K.written sink.new) result.report }
 
     // Lines counted: the whole lines that were taken and found good.
-    ensures read_lines { (taken : List ℕ) → reading.Gave (S.left source.old) (S.left source.new) taken → result.cause ≢ cause.Usage → reading.AreGood 1 (reading.counted_lines taken) result.read_lines }
-    ensures counted { (taken : List ℕ) → reading.Gave (S.left source.old) (S.left source.new) taken → spec.Counted taken result.read_lines result.report result.cause }
+    ensures read_lines { (taken : List ℕ) →
+        reading.Gave (S.left source.old) (S.left source.new) taken → result.cause ≢ cause.Usage →
+        reading.AreGood 1 (reading.counted_lines taken) result.read_lines }
+    ensures counted { (taken : List ℕ) →
+        reading.Gave (S.left source.old) (S.left source.new) taken →
+        spec.Counted taken result.read_lines result.report result.cause }
 {
     if !is_trace(words) {
         return Ended {

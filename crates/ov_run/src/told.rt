@@ -13,8 +13,10 @@ use ov_script::Limit;
 /// Writes the line that tells how a run ended, and nothing where it ended well. A line outside the grammar is
 /// told by its number, from 1. Where a write fails a part of the line is written.
 pub fn tell<K: Sink>(cause: Cause, sink: &mut K) -> Result<(), WriteFault>
-    ensures whole { OnOk result (Appends (K.written sink.old) (K.written sink.new) (text_of cause)) }
-    ensures part { OnErr result (AppendsPart (K.written sink.old) (K.written sink.new) (text_of cause)) }
+    ensures whole { OnOk result
+        (Appends (K.written sink.old) (K.written sink.new) (text_of cause)) }
+    ensures part { OnErr result
+        (AppendsPart (K.written sink.old) (K.written sink.new) (text_of cause)) }
 {
     match cause {
         Cause::Fine => Ok(()),
