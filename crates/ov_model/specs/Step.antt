@@ -83,6 +83,7 @@ peer_new_checks t a remote =
     refuse Exists (is_some (by_remote remote t.live)) ∷
     refuse NoSpace (nat_le most_peers t.made) ∷ []
 
+-- The new peer is live, the last in the order of making.
 abbrev pub peer_made : Table → ℕ → Attrs → Transport → Outcome
 peer_made t now a remote = replied (record t { live = t.live ++ peer_of t.made now a remote ∷ []; made = t.made + 1 }) now (reply.Made t.made)
 
@@ -112,14 +113,15 @@ unfoldable pub remove_peer : Table → ℕ → PeerId → Reason → Outcome
 remove_peer t now id reason = where_found t now (reply.Refused NoEntry) (by_id id t.live)
     (λ p. removals t now reason (p ∷ []) (without_first (has_id id) t.live) (reply.Removed (serials_of (p ∷ []))))
 
--- key-new puts a key into a slot of the live peer with an id; the key that stood there is retired. At
--- most 65,536 keys are made.
+-- The key that key-new makes.
 abbrev pub key_of_conf : ℕ → KeyConf → Key
 key_of_conf serial c = record { serial = serial; key_id = c.key_id; material = record { encrypt = c.encrypt; decrypt = c.decrypt } }
 
 abbrev pub with_key : Slot → Key → Peer → Peer
 with_key slot k p = record p { slots = with_slot slot (Some k) p.slots }
 
+-- key-new puts a key into a slot of the live peer with an id; the key that stood there is retired. At
+-- most 65,536 keys are made.
 abbrev pub key_made : Table → ℕ → KeyConf → Peer → Outcome
 key_made t now c p = record {
   after = record t { live = change_first (has_id c.peer) (with_key c.slot (key_of_conf t.keys_made c)) t.live; retired = t.retired ++ key_if_any (in_slot c.slot p.slots); keys_made = t.keys_made + 1; moment = now };
@@ -181,6 +183,7 @@ sent_counts inner outer ping c =
 abbrev pub sent_peer : (now inner outer : ℕ) → Bool → Peer → Peer
 sent_peer now inner outer ping p = record p { last_sent = now; counts = sent_counts inner outer ping p.counts }
 
+-- A datagram was sent to a peer, live or dying.
 unfoldable pub sent : Table → (now peer inner outer : ℕ) → Bool → Outcome
 sent t now peer inner outer ping = replied (change_peer peer (sent_peer now inner outer ping) (sent_peer now inner outer ping) t) now reply.Done
 
@@ -208,6 +211,8 @@ settled_as peer (kind.From a) live = if is_serial peer (by_vpn a live) then sett
 settled_as peer kind.Ping live = settled.Ping
 settled_as peer kind.NotIp live = settled.NotIp
 
+-- A datagram of a peer was received and its packet opened: the peer is counted, and a live one may float; what
+-- becomes of the packet is the reply.
 unfoldable pub settle : Table → (now peer : ℕ) → Option Transport → InnerKind → (inner outer : ℕ) → Outcome
 settle t now peer from k inner outer =
     let s : Settled = settled_as peer k t.live in
@@ -264,14 +269,14 @@ act_step t now (act.KeyReleased serial) = key_released t now serial
 abbrev pub step : Table → Call → Outcome
 step t c = act_step t (max t.moment c.at) c.act
 
--- What must hold where an act is made: what a hold names is still there, and only a dying peer and a
--- retired key are let go.
 abbrev pub is_retired : ℕ → List Key → Bool
 is_retired serial keys = list_any (has_key_serial serial) keys
 
 abbrev pub has_key : ℕ → Peer → Bool
 has_key key p = is_some (by_key key p.slots)
 
+-- What must hold where an act is made: what a hold names is still there, and only a dying peer and a
+-- retired key are let go.
 abbrev pub may_act : Table → Act → Bool
 may_act t (act.Do c) = true
 may_act t (act.TxLook a) = true
