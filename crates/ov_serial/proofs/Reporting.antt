@@ -3,7 +3,8 @@ use Rattle.std.proofs.Common.{ℕ, ◌≡◌, ◌-◌, ◌<◌, ◌==◌, true, 
 use Rattle.std.specs.Prelude.{Option, Some, None, map, slice_get}
 use Rattle.std.specs.Option.{option_map}
 use Rattle.std.proofs.lemmas.Option.{slice_get-map}
-use Rattle.std.specs.List.{AllByRecursion}
+use Rattle.std.specs.List.{AllByRecursion, AllPairs}
+use Rattle.std.proofs.lemmas.List.FromFn.{length-range_with_len}
 use Rattle.std.proofs.lemmas.List.{take_all, length-map}
 use Rattle.std.proofs.lemmas.Bool.Decides.{nat_tests}
 use Rattle.ov_model.specs.declared.hold.Owed.{Owed}
@@ -15,12 +16,12 @@ use Rattle.ov_model.specs.declared.report.LaneLog.{LaneLog}
 use Rattle.ov_model.specs.declared.report.Report.{Report}
 use Rattle.ov_model.specs.Tables.{Peer, Key, key_serials}
 use Rattle.ov_model.specs.Events.{steps_of}
-use Rattle.ov_model.specs.Keys.{key_of, ids_of, ids_in, Rises, KeyCounts, IdsCount}
+use Rattle.ov_model.specs.Keys.{key_of, ids_of, ids_in, KeyCounts, IdsCount}
 use Rattle.ov_model.specs.Replay.{ShardJudges}
 use Rattle.ov_model.specs.Removals.{RemovalsNoted, AllReleased}
 use Rattle.ov_model.specs.Legal.{lane_lines, LaneMatches, LanesMatch, JournalRuns, LaneMeets, LinesFollowPath, LinesRise, ShardsJudge, Legal}
 use Rattle.ov_model.proofs.Lanes.{all_weaker, filter_all, lane_done}
-use Rattle.ov_model.proofs.Counting.{counted, length-counted, times_counted, rises_counted}
+use Rattle.ov_model.proofs.Counting.{counted, times_counted, rises_counted}
 use Rattle.ov_model.proofs.Noted.{removals_noted}
 use Rattle.ov_replay.specs.History.{History}
 use Rattle.ov_path.specs.Desks.{NoHold}
@@ -132,7 +133,7 @@ shards_judge d lines answers rested eight judge = record {
 key_counts : (d : Serial) (lines : List Line) (answers : List Answer) (key : ℕ) → CountsAll d answers key → next_of d key < 4294967297 → KeyCounts d.first (report_of d lines answers) key
 key_counts d lines answers key counts over =
     let whole : ids_in (one_log lines answers ∷ []) key ≡ counted d.first counts.drawn = append-nil (ids_of answers key) ∙ counts.ids in
-    let long : length (ids_in (one_log lines answers ∷ []) key) ≡ counts.drawn = ap (λ (ids : List ℕ). length ids) whole ∙ length-counted d.first counts.drawn in
+    let long : length (ids_in (one_log lines answers ∷ []) key) ≡ counts.drawn = ap (λ (ids : List ℕ). length ids) whole ∙ length-range_with_len d.first counts.drawn in
     record {
       once = λ n. rw (long, whole) (times_counted d.first counts.drawn n);
       most = rw long (let next = counts.next in omega arith);
@@ -144,7 +145,7 @@ ids_count d lines answers rested sound = record {
   each = λ key. key_counts d lines answers key (rested.counts key) (let below = (sound.counters key).1 in omega arith);
   rise = λ lane log key is.
       let at : (lane ≡ 0) × (one_log lines answers ≡ log) = the_one (one_log lines answers) log lane is in
-      let Q : LaneLog → Type 0 = λ l. Rises (ids_of l.answers key) in
+      let Q : LaneLog → Type 0 = λ l. AllPairs (λ m n. m < n) (ids_of l.answers key) in
       subst Q at.1 (rw (rested.counts key).ids (rises_counted d.first (rested.counts key).drawn));
 }
 
