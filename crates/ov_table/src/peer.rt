@@ -31,18 +31,7 @@ impl Model for Peer {
 
     ghost Value = { tables.Peer };
 
-    ghost view = { λ p. record {
-      serial = p.serial;
-      id = p.id;
-      remote = p.remote;
-      vpn4 = p.vpn4;
-      vpn6 = p.vpn6;
-      keepalive = p.keepalive;
-      counts = p.counts;
-      last_received = p.last_received;
-      last_sent = p.last_sent;
-      slots = p.slots;
-    } };
+    ghost view = { λ p. record { serial = p.serial; id = p.id; remote = p.remote; vpn4 = p.vpn4; vpn6 = p.vpn6; keepalive = p.keepalive; counts = p.counts; last_received = p.last_received; last_sent = p.last_sent; slots = p.slots } };
 }
 
 /// Nothing went over the peer yet.
@@ -99,9 +88,7 @@ impl Peer {
     /// Puts a key into a slot, and gives what stood there.
     pub fn install(&mut self, slot: Slot, key: KeyRec) -> Option<KeyRec>
         ensures was { result ≡ in_slot slot self.old.slots }
-        ensures now { self.new ≡ record self.old {
-          slots = with_slot slot (Some key) self.old.slots;
-        } }
+        ensures now { self.new ≡ record self.old { slots = with_slot slot (Some key) self.old.slots } }
     {
         self.slots.install(slot, key)
     }
@@ -139,8 +126,7 @@ impl Peer {
         inner: u32,
         outer: u32,
     )
-        ensures { self.new ≡
-            model.settled_peer settled inner (moved to (model.received_peer now outer self.old)) }
+        ensures { self.new ≡ model.settled_peer settled inner (moved to (model.received_peer now outer self.old)) }
     {
         self.last_received = now;
         up(&mut self.counts.link_rx_bytes, outer);

@@ -42,17 +42,9 @@ impl Model for Peers {
 
     ghost Value = { Table };
 
-    ghost view = { λ t. record {
-      live = t.live.items;
-      dying = t.dying.items;
-      retired = t.retired.items;
-      made = t.made;
-      keys_made = t.keys_made;
-      moment = t.moment;
-    } };
+    ghost view = { λ t. record { live = t.live.items; dying = t.dying.items; retired = t.retired.items; made = t.made; keys_made = t.keys_made; moment = t.moment } };
 
-    ghost invariant = { λ t. (t.made ≤ 4096) ×
-        (length t.live.items + length t.dying.items ≤ t.made) × (t.keys_made ≤ 65536) };
+    ghost invariant = { λ t. (t.made ≤ 4096) × (length t.live.items + length t.dying.items ≤ t.made) × (t.keys_made ≤ 65536) };
 }
 
 impl Peers {
@@ -105,8 +97,7 @@ impl Peers {
 
     /// Whether a peer with this serial isn't let go yet.
     fn is_there(&self, peer: u32) -> bool
-        ensures { result ≡
-            (model.is_there peer self.now.live || model.is_there peer self.now.dying) }
+        ensures { result ≡ (model.is_there peer self.now.live || model.is_there peer self.now.dying) }
     {
         find::has_serial(&self.live, peer) || find::has_serial(&self.dying, peer)
     }
@@ -122,8 +113,7 @@ impl Peers {
         }
     }
 
-    /// What the key with a serial seals and opens with, where it is in a slot of a live peer or retired. It
-    /// is lent: a pair has 1.7 KB.
+    /// What the key with a serial seals and opens with, where it is in a slot of a live peer or retired.
     pub fn pair(&self, key: u32) -> Option<&KeyPair>
         ensures { option_copied result ≡ pair_in self.now key }
     {
@@ -137,8 +127,7 @@ impl Peers {
     /// One act that isn't a release, at the moment `now`.
     pub fn act(&mut self, now: u32, act: &Act) -> Result<Outcome, Memory>
         requires { is_release act.now ≡ false }
-        ensures ok { IfOk result (λ o. outcome self.new o.reply o.note o.first o.second ≡
-            model.act_step self.old now act.now) }
+        ensures ok { IfOk result (λ o. outcome self.new o.reply o.note o.first o.second ≡ model.act_step self.old now act.now) }
         ensures kept { IfOk result (λ o. o.kept ≡ o.reply) }
         ensures more { OnOk result (unreleased self.new ≤ unreleased self.old + 2) }
         ensures err { OnErr result (self.new ≡ self.old) }
@@ -167,8 +156,7 @@ impl Peers {
 
     /// A refusal changes nothing but the moment.
     fn refuse(&mut self, now: u32, errno: Errno) -> Outcome
-        ensures value { outcome self.new result.reply result.note result.first result.second ≡
-            model.refused self.old now errno }
+        ensures value { outcome self.new result.reply result.note result.first result.second ≡ model.refused self.old now errno }
         ensures kept { result.kept ≡ result.reply }
         ensures same { unreleased self.new ≡ unreleased self.old }
     {

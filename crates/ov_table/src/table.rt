@@ -37,20 +37,9 @@ impl Model for Table {
 
     ghost Value = { Recorded };
 
-    ghost view = { λ t. record {
-      now = t.peers;
-      journal = t.journal.items;
-      notes = t.notes.items;
-      taken = t.taken.items;
-    } };
+    ghost view = { λ t. record { now = t.peers; journal = t.journal.items; notes = t.notes.items; taken = t.taken.items } };
 
-    ghost invariant = { λ t. IsTold (record {
-      now = t.peers;
-      journal = t.journal.items;
-      notes = t.notes.items;
-      taken = t.taken.items;
-    }) ×
-        (vec_len t.journal + unreleased t.peers ≤ vec_capacity t.journal) };
+    ghost invariant = { λ t. IsTold (record { now = t.peers; journal = t.journal.items; notes = t.notes.items; taken = t.taken.items }) × (vec_len t.journal + unreleased t.peers ≤ vec_capacity t.journal) };
 }
 
 impl Table {
@@ -117,14 +106,8 @@ impl Table {
     // The step that lets a dying peer go. The room for its entry was reserved while the peer was live.
     fn release(&mut self, place: Place, at: u32, serial: u32) -> Reply
         requires { May self.old.now (record { at = at; act = act.Released serial }) }
-        ensures reply { result ≡ (step self.old.now (record {
-          at = at;
-          act = act.Released serial;
-        })).reply }
-        ensures stepped { self.new ≡ stepped self.old place (record {
-          at = at;
-          act = act.Released serial;
-        }) }
+        ensures reply { result ≡ (step self.old.now (record { at = at; act = act.Released serial })).reply }
+        ensures stepped { self.new ≡ stepped self.old place (record { at = at; act = act.Released serial }) }
     {
         let now = self.peers.moment_at(at);
         self.peers.release(now, serial);
@@ -146,14 +129,8 @@ impl Table {
     // The step that lets a retired key go. The room for its entry was reserved by the step that retired it.
     fn release_key(&mut self, place: Place, at: u32, serial: u32) -> Reply
         requires { May self.old.now (record { at = at; act = act.KeyReleased serial }) }
-        ensures reply { result ≡ (step self.old.now (record {
-          at = at;
-          act = act.KeyReleased serial;
-        })).reply }
-        ensures stepped { self.new ≡ stepped self.old place (record {
-          at = at;
-          act = act.KeyReleased serial;
-        }) }
+        ensures reply { result ≡ (step self.old.now (record { at = at; act = act.KeyReleased serial })).reply }
+        ensures stepped { self.new ≡ stepped self.old place (record { at = at; act = act.KeyReleased serial }) }
     {
         let now = self.peers.moment_at(at);
         self.peers.release_key(now, serial);
@@ -182,7 +159,7 @@ impl Table {
     }
 
     /// What the key with a serial seals and opens with: Some exactly where it stands in a slot of a live
-    /// peer or is retired and not let go yet.
+    /// peer or is retired and not let go yet. It is lent: a pair has 1.7 KB.
     pub fn pair(&self, key: u32) -> Option<&KeyPair>
         ensures { option_copied result ≡ pair_in self.now.now key }
     {
@@ -226,12 +203,7 @@ impl Table {
     pub fn finish(self) -> (ListOf<Entry>, ListOf<Note>)
         ensures journal { result.0 ≡ self.journal }
         ensures notes { result.1 ≡ self.notes }
-        ensures told { IsTold (record {
-          now = self.now;
-          journal = result.0;
-          notes = result.1;
-          taken = self.taken;
-        }) }
+        ensures told { IsTold (record { now = self.now; journal = result.0; notes = result.1; taken = self.taken }) }
     {
         let Table { journal, notes, .. } = self;
         (ListOf::of_vec(journal), ListOf::of_vec(notes))

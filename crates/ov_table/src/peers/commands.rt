@@ -26,8 +26,7 @@ const MOST_KEYS: u32 = 65536;
 impl Peers {
     /// One command at the moment `now`.
     pub fn command(&mut self, now: u32, command: &Command) -> Result<Outcome, Memory>
-        ensures ok { IfOk result (λ o. outcome self.new o.reply o.note o.first o.second ≡
-            model.command_step self.old now command.now) }
+        ensures ok { IfOk result (λ o. outcome self.new o.reply o.note o.first o.second ≡ model.command_step self.old now command.now) }
         ensures kept { IfOk result (λ o. o.kept ≡ o.reply) }
         ensures more { OnOk result (unreleased self.new ≤ unreleased self.old + 2) }
         ensures err { OnErr result (self.new ≡ self.old) }
@@ -44,8 +43,7 @@ impl Peers {
     /// address or the remote of another live peer exists; and then there may be no space.
     #[tactic(auto, unfolding(ov_model::specs::Step::peer_new))]
     fn peer_new(&mut self, now: u32, attrs: &Attrs) -> Result<Outcome, Memory>
-        ensures ok { IfOk result (λ o. outcome self.new o.reply o.note o.first o.second ≡
-            model.peer_new self.old now attrs.now) }
+        ensures ok { IfOk result (λ o. outcome self.new o.reply o.note o.first o.second ≡ model.peer_new self.old now attrs.now) }
         ensures kept { IfOk result (λ o. o.kept ≡ o.reply) }
         ensures more { OnOk result (unreleased self.new ≤ unreleased self.old + 2) }
         ensures err { OnErr result (self.new ≡ self.old) }
@@ -75,8 +73,7 @@ impl Peers {
     /// peer-get: what the live peer with an id is, refused where there is none.
     #[tactic(auto, unfolding(ov_model::specs::Step::peer_get))]
     fn peer_get(&mut self, now: u32, id: PeerId) -> Outcome
-        ensures value { outcome self.new result.reply result.note result.first result.second ≡
-            model.peer_get self.old now id }
+        ensures value { outcome self.new result.reply result.note result.first result.second ≡ model.peer_get self.old now id }
         ensures kept { result.kept ≡ result.reply }
         ensures same { unreleased self.new ≡ unreleased self.old }
     {
@@ -93,8 +90,7 @@ impl Peers {
     /// The removal of the live peer with an id, refused where there is none: it joins the dying ones, the
     /// keys of its slots join the retired ones, and the note tells its id and the reason.
     fn remove(&mut self, now: u32, id: PeerId, reason: Reason) -> Result<Outcome, Memory>
-        ensures ok { IfOk result (λ o. outcome self.new o.reply o.note o.first o.second ≡
-            model.remove_peer self.old now id reason) }
+        ensures ok { IfOk result (λ o. outcome self.new o.reply o.note o.first o.second ≡ model.remove_peer self.old now id reason) }
         ensures kept { IfOk result (λ o. o.kept ≡ o.reply) }
         ensures more { OnOk result (unreleased self.new ≤ unreleased self.old + 2) }
         ensures err { OnErr result (self.new ≡ self.old) }
@@ -109,10 +105,7 @@ impl Peers {
     #[tactic(auto, using(crate::proofs::Outcomes::one_key))]
     fn remove_at(&mut self, now: u32, place: usize, reason: Reason) -> Result<Outcome, Memory>
         requires { place < length self.old.live }
-        ensures ok { IfOk result (λ o. (p : Peer) → slice_get self.old.live place ≡ Some p →
-            outcome self.new o.reply o.note o.first o.second ≡
-            model.removals self.old now reason (p ∷ []) (remove self.old.live place) (reply.Removed
-            (p.serial ∷ []))) }
+        ensures ok { IfOk result (λ o. (p : Peer) → slice_get self.old.live place ≡ Some p → outcome self.new o.reply o.note o.first o.second ≡ model.removals self.old now reason (p ∷ []) (remove self.old.live place) (reply.Removed (p.serial ∷ []))) }
         ensures kept { IfOk result (λ o. o.kept ≡ o.reply) }
         ensures more { OnOk result (unreleased self.new ≤ unreleased self.old + 2) }
         ensures err { OnErr result (self.new ≡ self.old) }
@@ -142,8 +135,7 @@ impl Peers {
     /// key-new: the key stands in its slot, and a key that stood there is retired. Refused where no live
     /// peer has the id, and then there may be no space.
     fn key_new(&mut self, now: u32, conf: &KeyConf) -> Result<Outcome, Memory>
-        ensures ok { IfOk result (λ o. outcome self.new o.reply o.note o.first o.second ≡
-            model.key_new self.old now conf.now) }
+        ensures ok { IfOk result (λ o. outcome self.new o.reply o.note o.first o.second ≡ model.key_new self.old now conf.now) }
         ensures kept { IfOk result (λ o. o.kept ≡ o.reply) }
         ensures more { OnOk result (unreleased self.new ≤ unreleased self.old + 2) }
         ensures err { OnErr result (self.new ≡ self.old) }
@@ -158,9 +150,7 @@ impl Peers {
     #[tactic(auto, using(crate::proofs::Outcomes::one_taken))]
     fn key_new_at(&mut self, now: u32, place: usize, conf: &KeyConf) -> Result<Outcome, Memory>
         requires { place < length self.old.live }
-        ensures ok { IfOk result (λ o. (p : Peer) → slice_get self.old.live place ≡ Some p →
-            outcome self.new o.reply o.note o.first o.second ≡
-            key_put self.old now conf.now place p) }
+        ensures ok { IfOk result (λ o. (p : Peer) → slice_get self.old.live place ≡ Some p → outcome self.new o.reply o.note o.first o.second ≡ key_put self.old now conf.now place p) }
         ensures kept { IfOk result (λ o. o.kept ≡ o.reply) }
         ensures more { OnOk result (unreleased self.new ≤ unreleased self.old + 2) }
         ensures err { OnErr result (self.new ≡ self.old) }

@@ -18,8 +18,7 @@ impl Peers {
     /// primary key.
     #[tactic(auto, unfolding(ov_model::specs::Step::tx_look))]
     pub fn tx_look(&mut self, now: u32, to: Addr) -> Outcome
-        ensures value { outcome self.new result.reply result.note result.first result.second ≡
-            model.tx_look self.old now to }
+        ensures value { outcome self.new result.reply result.note result.first result.second ≡ model.tx_look self.old now to }
         ensures kept { result.kept ≡ result.reply }
         ensures same { unreleased self.new ≡ unreleased self.old }
     {
@@ -38,8 +37,7 @@ impl Peers {
     /// key id.
     #[tactic(auto, unfolding(ov_model::specs::Step::rx_look))]
     pub fn rx_look(&mut self, now: u32, id: PeerId, key_id: KeyId, from: Transport) -> Outcome
-        ensures value { outcome self.new result.reply result.note result.first result.second ≡
-            model.rx_look self.old now id key_id from }
+        ensures value { outcome self.new result.reply result.note result.first result.second ≡ model.rx_look self.old now id key_id from }
         ensures kept { result.kept ≡ result.reply }
         ensures same { unreleased self.new ≡ unreleased self.old }
     {

@@ -13,8 +13,7 @@ impl Peers {
     /// A dying peer is let go.
     pub fn release(&mut self, now: u32, serial: u32)
         requires { model.is_there serial self.old.dying ≡ true }
-        ensures value { outcome self.new (reply.Released serial) None None None ≡
-            model.released self.old now serial }
+        ensures value { outcome self.new (reply.Released serial) None None None ≡ model.released self.old now serial }
         ensures fewer { unreleased self.new + 1 ≡ unreleased self.old }
     {
         let Some(place) = find::place_of_serial(&self.dying, serial) else {
@@ -27,8 +26,7 @@ impl Peers {
     /// A retired key is let go.
     pub fn release_key(&mut self, now: u32, serial: u32)
         requires { model.is_retired serial self.old.retired ≡ true }
-        ensures value { outcome self.new (reply.KeyReleased serial) None None None ≡
-            model.key_released self.old now serial }
+        ensures value { outcome self.new (reply.KeyReleased serial) None None None ≡ model.key_released self.old now serial }
         ensures fewer { unreleased self.new + 1 ≡ unreleased self.old }
     {
         let Some(place) = find::place_of_key(&self.retired, serial) else {

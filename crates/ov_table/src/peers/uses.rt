@@ -19,8 +19,7 @@ impl Peers {
     /// A datagram was sealed for a held peer, live or dying: it is counted, a ping outside the tunnel alone.
     #[tactic(auto, unfolding(ov_model::specs::Step::sent))]
     pub fn sent(&mut self, now: u32, peer: u32, inner: u32, outer: u32, ping: bool) -> Outcome
-        ensures value { outcome self.new result.reply result.note result.first result.second ≡
-            model.sent self.old now peer inner outer ping }
+        ensures value { outcome self.new result.reply result.note result.first result.second ≡ model.sent self.old now peer inner outer ping }
         ensures kept { result.kept ≡ result.reply }
         ensures same { unreleased self.new ≡ unreleased self.old }
     {
@@ -44,8 +43,7 @@ impl Peers {
         inner: u32,
         outer: u32,
     ) -> Outcome
-        ensures value { outcome self.new result.reply result.note result.first result.second ≡
-            model.settle self.old now peer from kind inner outer }
+        ensures value { outcome self.new result.reply result.note result.first result.second ≡ model.settle self.old now peer from kind inner outer }
         ensures kept { result.kept ≡ result.reply }
         ensures same { unreleased self.new ≡ unreleased self.old }
     {
@@ -61,8 +59,7 @@ impl Peers {
     /// A held key gave its last packet id. Where it stands in a slot of the live peer it is retired, and
     /// the note tells so.
     pub fn spend(&mut self, now: u32, peer: u32, key: u32) -> Result<Outcome, Memory>
-        ensures ok { IfOk result (λ o. outcome self.new o.reply o.note o.first o.second ≡
-            model.spend self.old now peer key) }
+        ensures ok { IfOk result (λ o. outcome self.new o.reply o.note o.first o.second ≡ model.spend self.old now peer key) }
         ensures kept { IfOk result (λ o. o.kept ≡ o.reply) }
         ensures more { OnOk result (unreleased self.new ≤ unreleased self.old + 2) }
         ensures err { OnErr result (self.new ≡ self.old) }
@@ -77,8 +74,7 @@ impl Peers {
     /// The same for the live peer at a place of the list.
     fn spend_at(&mut self, now: u32, place: usize, key: u32) -> Result<Outcome, Memory>
         requires { place < length self.old.live }
-        ensures ok { IfOk result (λ o. (p : tables.Peer) → slice_get self.old.live place ≡ Some p →
-            outcome self.new o.reply o.note o.first o.second ≡ spent_of self.old now place key p) }
+        ensures ok { IfOk result (λ o. (p : tables.Peer) → slice_get self.old.live place ≡ Some p → outcome self.new o.reply o.note o.first o.second ≡ spent_of self.old now place key p) }
         ensures kept { IfOk result (λ o. o.kept ≡ o.reply) }
         ensures more { OnOk result (unreleased self.new ≤ unreleased self.old + 2) }
         ensures err { OnErr result (self.new ≡ self.old) }
@@ -110,8 +106,7 @@ impl Peers {
 /// Counts a sent datagram at the first peer with a serial: whether there is one.
 fn sent_in(peers: &mut Vec<Peer>, serial: u32, now: u32, inner: u32, outer: u32, ping: bool) -> bool
     ensures there { result ≡ model.is_there serial peers.old.items }
-    ensures peers { peers.new.items ≡
-        change_first (has_serial serial) (model.sent_peer now inner outer ping) peers.old.items }
+    ensures peers { peers.new.items ≡ change_first (has_serial serial) (model.sent_peer now inner outer ping) peers.old.items }
     ensures absent { result ≡ false → peers.new.items ≡ peers.old.items }
     ensures long { length peers.new.items ≡ length peers.old.items }
 {
@@ -134,9 +129,7 @@ fn settle_in(
     outer: u32,
 ) -> bool
     ensures there { result ≡ model.is_there serial peers.old.items }
-    ensures peers { peers.new.items ≡ change_first (has_serial serial) (λ p.
-        model.settled_peer settled inner (moved to (model.received_peer now outer p)))
-        peers.old.items }
+    ensures peers { peers.new.items ≡ change_first (has_serial serial) (λ p. model.settled_peer settled inner (moved to (model.received_peer now outer p))) peers.old.items }
     ensures absent { result ≡ false → peers.new.items ≡ peers.old.items }
     ensures long { length peers.new.items ≡ length peers.old.items }
 {
