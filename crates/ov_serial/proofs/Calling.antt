@@ -57,15 +57,8 @@ nothing_waits t keys peers = rw (keys, peers) refl
 pub debt_most : (h : Holding) (s : Stand) → debt h s ≤ 4
 debt_most NoHold s = omega arith
 debt_most (PeerLeft h) s = omega arith
-debt_most (Both h) stand.Fresh = omega arith
-debt_most (Both h) stand.Replied = omega arith
-debt_most (Both h) stand.Missed = omega arith
 debt_most (Both h) (stand.Looked v) = omega arith
-debt_most (Both h) (stand.Drew v d) = omega arith
-debt_most (Both h) (stand.Judged v) = omega arith
-debt_most (Both h) (stand.Used v u) = omega arith
-debt_most (Both h) (stand.KeyGiven v u) = omega arith
-debt_most (Both h) (stand.PeerGiven v u) = omega arith
+debt_most (Both h) _ = omega arith
 
 see_all-append : (s : Stand) (es fs : List Event) → see_all s (es ++ fs) ≡ see_all (see_all s es) fs
 see_all-append s [] fs = refl
@@ -78,28 +71,13 @@ seen es e s is = see_all-append stand.Fresh es (e ∷ []) ∙ ap (λ t. see t e)
 
 may_held : (d : Serial) (hold : Holding) (s : Stand) (peer : ℕ) → IsHeldSound d hold s → HoldsPeer hold peer → IsDrawn s → is_there peer d.table.now.live ≡ true
 may_held d (Both h) (stand.Drew v (drawn.Id n)) peer held names drew = subst (λ p. is_there p d.table.now.live ≡ true) names held.sound.there
-may_held d (Both h) (stand.Drew v drawn.Spent) peer held names drew = absurd drew
-may_held d (Both h) stand.Fresh peer held names drew = absurd drew
-may_held d (Both h) stand.Replied peer held names drew = absurd drew
-may_held d (Both h) stand.Missed peer held names drew = absurd drew
-may_held d (Both h) (stand.Looked v) peer held names drew = absurd drew
-may_held d (Both h) (stand.Judged v) peer held names drew = absurd drew
-may_held d (Both h) (stand.Used v u) peer held names drew = absurd drew
-may_held d (Both h) (stand.KeyGiven v u) peer held names drew = absurd drew
-may_held d (Both h) (stand.PeerGiven v u) peer held names drew = absurd drew
+may_held d (Both h) _ peer held names drew = absurd drew
 may_held d NoHold s peer held names drew = absurd names
 may_held d (PeerLeft h) s peer held names drew = absurd names
 
 may_judged : (d : Serial) (hold : Holding) (s : Stand) (peer : ℕ) → IsHeldSound d hold s → HoldsPeer hold peer → IsJudged s → is_there peer d.table.now.live ≡ true
 may_judged d (Both h) (stand.Judged v) peer held names was = subst (λ p. is_there p d.table.now.live ≡ true) names held.sound.there
-may_judged d (Both h) (stand.Drew v r) peer held names was = absurd was
-may_judged d (Both h) stand.Fresh peer held names was = absurd was
-may_judged d (Both h) stand.Replied peer held names was = absurd was
-may_judged d (Both h) stand.Missed peer held names was = absurd was
-may_judged d (Both h) (stand.Looked v) peer held names was = absurd was
-may_judged d (Both h) (stand.Used v u) peer held names was = absurd was
-may_judged d (Both h) (stand.KeyGiven v u) peer held names was = absurd was
-may_judged d (Both h) (stand.PeerGiven v u) peer held names was = absurd was
+may_judged d (Both h) _ peer held names was = absurd was
 may_judged d NoHold s peer held names was = absurd names
 may_judged d (PeerLeft h) s peer held names was = absurd names
 
@@ -119,15 +97,7 @@ may_spend d (Both h) (stand.Drew v drawn.Spent) peer key held names own was =
       dry = subst (λ k. next_of d k ≡ 4294967296) own held.sound.1;
       none_retired = held.killed;
     }
-may_spend d (Both h) (stand.Drew v (drawn.Id n)) peer key held names own was = absurd was
-may_spend d (Both h) (stand.Judged v) peer key held names own was = absurd was
-may_spend d (Both h) stand.Fresh peer key held names own was = absurd was
-may_spend d (Both h) stand.Replied peer key held names own was = absurd was
-may_spend d (Both h) stand.Missed peer key held names own was = absurd was
-may_spend d (Both h) (stand.Looked v) peer key held names own was = absurd was
-may_spend d (Both h) (stand.Used v u) peer key held names own was = absurd was
-may_spend d (Both h) (stand.KeyGiven v u) peer key held names own was = absurd was
-may_spend d (Both h) (stand.PeerGiven v u) peer key held names own was = absurd was
+may_spend d (Both h) _ peer key held names own was = absurd was
 may_spend d NoHold s peer key held names own was = absurd names
 may_spend d (PeerLeft h) s peer key held names own was = absurd names
 

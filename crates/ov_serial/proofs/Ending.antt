@@ -36,18 +36,7 @@ use Rattle.ov_serial.proofs.Turning.{never_over, looked_later, drawn_asks, used_
 
 settled_stage : (h : HoldView) (r : Reply) → stages_left (judged_used h r) ≤ 3
 settled_stage h (reply.Settled x) = omega arith
-settled_stage h (reply.Made n) = omega arith
-settled_stage h reply.Done = omega arith
-settled_stage h (reply.Peer v) = omega arith
-settled_stage h (reply.Removed ns) = omega arith
-settled_stage h (reply.Hold v) = omega arith
-settled_stage h reply.NoPeer = omega arith
-settled_stage h reply.NoKey = omega arith
-settled_stage h reply.Killed = omega arith
-settled_stage h reply.AlreadyGone = omega arith
-settled_stage h (reply.Released n) = omega arith
-settled_stage h (reply.KeyReleased n) = omega arith
-settled_stage h (reply.Refused e) = omega arith
+settled_stage h _ = omega arith
 
 release_stage : (s : Stand) (e : Step) (o : Owed) → e.entry.call.act ≡ release_act o → stages_left (see s (Stepped e)) ≤ stages_left s
 release_stage stand.Fresh e (owed.Peer p) is = rw is (omega arith)

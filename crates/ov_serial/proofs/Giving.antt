@@ -107,35 +107,16 @@ key_waits t key ks is none which =
     ]
 
 killed_which : (h : HoldView) (s : Stand) → (killed_by h s ≡ []) ⊎ (killed_by h s ≡ h.key ∷ [])
-killed_which h stand.Fresh = inl refl
-killed_which h stand.Replied = inl refl
-killed_which h stand.Missed = inl refl
-killed_which h (stand.Looked v) = inl refl
-killed_which h (stand.Drew v d) = inl refl
-killed_which h (stand.Judged v) = inl refl
-killed_which h (stand.Used v (used.Sealed n)) = inl refl
 killed_which h (stand.Used v (used.Spent true)) = inr refl
-killed_which h (stand.Used v (used.Spent false)) = inl refl
-killed_which h (stand.Used v used.BadTag) = inl refl
-killed_which h (stand.Used v (used.Refused x)) = inl refl
-killed_which h (stand.Used v (used.Settled x)) = inl refl
-killed_which h (stand.KeyGiven v u) = inl refl
-killed_which h (stand.PeerGiven v u) = inl refl
+killed_which h _ = inl refl
 
 few_given : (g : Given) (o : Owed) → length (owed_if g o) ≤ 1
 few_given given.More o = omega arith
 few_given given.Last o = omega arith
 
 both_debt : (h : HoldView) (s : Stand) → 3 ≤ debt (Both h) s
-both_debt h stand.Fresh = omega arith
-both_debt h stand.Replied = omega arith
-both_debt h stand.Missed = omega arith
 both_debt h (stand.Looked v) = omega arith
-both_debt h (stand.Drew v d) = omega arith
-both_debt h (stand.Judged v) = omega arith
-both_debt h (stand.Used v u) = omega arith
-both_debt h (stand.KeyGiven v u) = omega arith
-both_debt h (stand.PeerGiven v u) = omega arith
+both_debt h _ = omega arith
 
 leaves_key : (d : Serial) (hold : Holding) (s : Stand) (key : ℕ) → IsHeldSound d hold s → HoldsKey hold key → Left d hold (peer_left hold) s (owed_if (given_where (first_waiting d.table.now)) (owed.Key key))
 leaves_key d (Both h) s key held names =

@@ -77,14 +77,7 @@ judged_held d e (Both h) (stand.Looked v) key j table next held names was =
       | verdict.Below ↦ record { material = held.material; installed = rw table held.installed; below = rw next held.below; none_dying = rw table held.none_dying; killed = rw table held.killed; sound = tt }
       | verdict.Again ↦ record { material = held.material; installed = rw table held.installed; below = rw next held.below; none_dying = rw table held.none_dying; killed = rw table held.killed; sound = tt }
     ]
-judged_held d e (Both h) (stand.Drew v r) key j table next held names was = absurd was
-judged_held d e (Both h) stand.Fresh key j table next held names was = absurd was
-judged_held d e (Both h) stand.Replied key j table next held names was = absurd was
-judged_held d e (Both h) stand.Missed key j table next held names was = absurd was
-judged_held d e (Both h) (stand.Judged v) key j table next held names was = absurd was
-judged_held d e (Both h) (stand.Used v u) key j table next held names was = absurd was
-judged_held d e (Both h) (stand.KeyGiven v u) key j table next held names was = absurd was
-judged_held d e (Both h) (stand.PeerGiven v u) key j table next held names was = absurd was
+judged_held d e (Both h) _ key j table next held names was = absurd was
 judged_held d e NoHold s key j table next held names was = absurd names
 judged_held d e (PeerLeft h) s key j table next held names was = absurd names
 
@@ -161,14 +154,7 @@ draw_held : (d e : Serial) (hold : Holding) (s : Stand) (key : ℕ) → e.table 
 draw_held d e (Both h) (stand.Looked v) key table long dry held names was =
     let ready : Ready d h = held.sound in
     draw_sound d e h key v names (record { there = rw table ready.there; key = rw table ready.key }) dry held table long
-draw_held d e (Both h) (stand.Drew v r) key table long dry held names was = absurd was
-draw_held d e (Both h) stand.Fresh key table long dry held names was = absurd was
-draw_held d e (Both h) stand.Replied key table long dry held names was = absurd was
-draw_held d e (Both h) stand.Missed key table long dry held names was = absurd was
-draw_held d e (Both h) (stand.Judged v) key table long dry held names was = absurd was
-draw_held d e (Both h) (stand.Used v u) key table long dry held names was = absurd was
-draw_held d e (Both h) (stand.KeyGiven v u) key table long dry held names was = absurd was
-draw_held d e (Both h) (stand.PeerGiven v u) key table long dry held names was = absurd was
+draw_held d e (Both h) _ key table long dry held names was = absurd was
 draw_held d e NoHold s key table long dry held names was = absurd names
 draw_held d e (PeerLeft h) s key table long dry held names was = absurd names
 
@@ -183,14 +169,7 @@ key_counted d key sound names = key_held d d.hold (stand_of (shown_of d).events)
 -- A draw leaves room for one mark less, and owes one less.
 draw_debt : (h : Holding) (s : Stand) (key : ℕ) (r : Drawn) → HoldsKey h key → IsLooked s → debt h (see s (Drew key r)) + 1 ≤ debt h s
 draw_debt (Both h) (stand.Looked v) key r names was = omega arith
-draw_debt (Both h) (stand.Drew v x) key r names was = absurd was
-draw_debt (Both h) stand.Fresh key r names was = absurd was
-draw_debt (Both h) stand.Replied key r names was = absurd was
-draw_debt (Both h) stand.Missed key r names was = absurd was
-draw_debt (Both h) (stand.Judged v) key r names was = absurd was
-draw_debt (Both h) (stand.Used v u) key r names was = absurd was
-draw_debt (Both h) (stand.KeyGiven v u) key r names was = absurd was
-draw_debt (Both h) (stand.PeerGiven v u) key r names was = absurd was
+draw_debt (Both h) _ key r names was = absurd was
 draw_debt NoHold s key r names was = absurd names
 draw_debt (PeerLeft h) s key r names was = absurd names
 

@@ -89,31 +89,13 @@ look_owing : (h : Holding) (t u : Table) (r : Reply) → h ≡ NoHold → waitin
 look_owing h t u (reply.Hold v) free was now fits = rw (free, was) refl
 look_owing h t u reply.NoPeer free was now fits = rw (free, was, now) refl
 look_owing h t u reply.NoKey free was now fits = rw (free, was, now) refl
-look_owing h t u (reply.Made n) free was now fits = absurd fits
-look_owing h t u reply.Done free was now fits = absurd fits
-look_owing h t u (reply.Peer v) free was now fits = absurd fits
-look_owing h t u (reply.Removed ns) free was now fits = absurd fits
-look_owing h t u (reply.Settled s) free was now fits = absurd fits
-look_owing h t u reply.Killed free was now fits = absurd fits
-look_owing h t u reply.AlreadyGone free was now fits = absurd fits
-look_owing h t u (reply.Released n) free was now fits = absurd fits
-look_owing h t u (reply.KeyReleased n) free was now fits = absurd fits
-look_owing h t u (reply.Refused e) free was now fits = absurd fits
+look_owing h t u _ free was now fits = absurd fits
 
 look_held : (e : Serial) (h : Holding) (r : Reply) → h ≡ NoHold → IsLookReply r → ((v : HoldView) → r ≡ reply.Hold v → HoldSound e v (stand.Looked v)) → IsHeldSound e (look_holds h r) (looked r)
 look_held e h (reply.Hold v) free fits holds = holds v refl
 look_held e h reply.NoPeer free fits holds = subst (λ (x : Holding). IsHeldSound e x stand.Missed) (sym free) tt
 look_held e h reply.NoKey free fits holds = subst (λ (x : Holding). IsHeldSound e x stand.Missed) (sym free) tt
-look_held e h (reply.Made n) free fits holds = absurd fits
-look_held e h reply.Done free fits holds = absurd fits
-look_held e h (reply.Peer v) free fits holds = absurd fits
-look_held e h (reply.Removed ns) free fits holds = absurd fits
-look_held e h (reply.Settled s) free fits holds = absurd fits
-look_held e h reply.Killed free fits holds = absurd fits
-look_held e h reply.AlreadyGone free fits holds = absurd fits
-look_held e h (reply.Released n) free fits holds = absurd fits
-look_held e h (reply.KeyReleased n) free fits holds = absurd fits
-look_held e h (reply.Refused x) free fits holds = absurd fits
+look_held e h _ free fits holds = absurd fits
 
 -- The material of what a look-up holds.
 abbrev pub HoldsInstalled : Serial → Reply → Type 0
@@ -123,16 +105,7 @@ hold_has : (e : Serial) (r : Reply) → HoldsInstalled e r → IsLookReply r →
 hold_has e (reply.Hold v) has fits = has v refl
 hold_has e reply.NoPeer has fits = tt
 hold_has e reply.NoKey has fits = tt
-hold_has e (reply.Made n) has fits = absurd fits
-hold_has e reply.Done has fits = absurd fits
-hold_has e (reply.Peer v) has fits = absurd fits
-hold_has e (reply.Removed ns) has fits = absurd fits
-hold_has e (reply.Settled s) has fits = absurd fits
-hold_has e reply.Killed has fits = absurd fits
-hold_has e reply.AlreadyGone has fits = absurd fits
-hold_has e (reply.Released n) has fits = absurd fits
-hold_has e (reply.KeyReleased n) has fits = absurd fits
-hold_has e (reply.Refused x) has fits = absurd fits
+hold_has e _ has fits = absurd fits
 
 -- What a look-up holds is sound.
 look_sound : (d e : Serial) (o : Outcome) (v : HoldView) (m : Material) → NoneWaits d.table.now → Looks d.table.now o → Keeps d.table.now o → o.reply ≡ reply.Hold v → e.table.now ≡ o.after → IsTold e.table → length e.next ≡ e.table.now.keys_made → key_of e.table.journal v.key ≡ Some m → HoldSound e v (stand.Looked v)
@@ -226,28 +199,13 @@ killed_none d h s held is = held.killed ∙ is
 
 sent_held : (d e : Serial) (hold : Holding) (s : Stand) (event : Step) (peer inner outer : ℕ) (ping : Bool) → event.entry.call.act ≡ act.Sent peer inner outer ping → IsHeldSound d hold s → HoldsPeer hold peer → IsDrawn s → Stays d e (key_serials d.table.now.retired) → IsHeldSound e hold (see s (Stepped event))
 sent_held d e (Both h) (stand.Drew v (drawn.Id n)) event peer inner outer ping is held names was stays = rw is (used_sound d e h (stand.Drew v (drawn.Id n)) v (key_serials d.table.now.retired) (used.Sealed n) held stays held.killed)
-sent_held d e (Both h) (stand.Drew v drawn.Spent) event peer inner outer ping is held names was stays = absurd was
-sent_held d e (Both h) stand.Fresh event peer inner outer ping is held names was stays = absurd was
-sent_held d e (Both h) stand.Replied event peer inner outer ping is held names was stays = absurd was
-sent_held d e (Both h) stand.Missed event peer inner outer ping is held names was stays = absurd was
-sent_held d e (Both h) (stand.Looked v) event peer inner outer ping is held names was stays = absurd was
-sent_held d e (Both h) (stand.Judged v) event peer inner outer ping is held names was stays = absurd was
-sent_held d e (Both h) (stand.Used v u) event peer inner outer ping is held names was stays = absurd was
-sent_held d e (Both h) (stand.KeyGiven v u) event peer inner outer ping is held names was stays = absurd was
-sent_held d e (Both h) (stand.PeerGiven v u) event peer inner outer ping is held names was stays = absurd was
+sent_held d e (Both h) _ event peer inner outer ping is held names was stays = absurd was
 sent_held d e NoHold s event peer inner outer ping is held names was stays = absurd names
 sent_held d e (PeerLeft h) s event peer inner outer ping is held names was stays = absurd names
 
 settle_held : (d e : Serial) (hold : Holding) (s : Stand) (event : Step) (peer : ℕ) (x : Settled) → event.entry.reply ≡ reply.Settled x → IsHeldSound d hold s → HoldsPeer hold peer → IsJudged s → Stays d e (key_serials d.table.now.retired) → IsHeldSound e hold (see s (Stepped event))
 settle_held d e (Both h) (stand.Judged v) event peer x is held names was stays = rw is (used_sound d e h (stand.Judged v) v (key_serials d.table.now.retired) (used.Settled x) held stays held.killed)
-settle_held d e (Both h) (stand.Drew v r) event peer x is held names was stays = absurd was
-settle_held d e (Both h) stand.Fresh event peer x is held names was stays = absurd was
-settle_held d e (Both h) stand.Replied event peer x is held names was stays = absurd was
-settle_held d e (Both h) stand.Missed event peer x is held names was stays = absurd was
-settle_held d e (Both h) (stand.Looked v) event peer x is held names was stays = absurd was
-settle_held d e (Both h) (stand.Used v u) event peer x is held names was stays = absurd was
-settle_held d e (Both h) (stand.KeyGiven v u) event peer x is held names was stays = absurd was
-settle_held d e (Both h) (stand.PeerGiven v u) event peer x is held names was stays = absurd was
+settle_held d e (Both h) _ event peer x is held names was stays = absurd was
 settle_held d e NoHold s event peer x is held names was stays = absurd names
 settle_held d e (PeerLeft h) s event peer x is held names was stays = absurd names
 
@@ -262,15 +220,7 @@ spent_keys false h v = refl
 spend_held : (d e : Serial) (hold : Holding) (s : Stand) (event : Step) (peer key : ℕ) (killed : Bool) → event.entry.call.act ≡ act.Spend peer key → event.entry.reply ≡ spent_reply killed → IsHeldSound d hold s → HoldsPeer hold peer → HoldsKey hold key → IsSpent s → Stays d e (spent_taken killed key) → IsHeldSound e hold (see s (Stepped event))
 spend_held d e (Both h) (stand.Drew v drawn.Spent) event peer key killed is says held names own was stays =
     rw (is, says, killed_is killed) (used_sound d e h (stand.Drew v drawn.Spent) v (spent_taken killed key) (used.Spent killed) held stays (rw (← own) (spent_keys killed h v)))
-spend_held d e (Both h) (stand.Drew v (drawn.Id n)) event peer key killed is says held names own was stays = absurd was
-spend_held d e (Both h) stand.Fresh event peer key killed is says held names own was stays = absurd was
-spend_held d e (Both h) stand.Replied event peer key killed is says held names own was stays = absurd was
-spend_held d e (Both h) stand.Missed event peer key killed is says held names own was stays = absurd was
-spend_held d e (Both h) (stand.Looked v) event peer key killed is says held names own was stays = absurd was
-spend_held d e (Both h) (stand.Judged v) event peer key killed is says held names own was stays = absurd was
-spend_held d e (Both h) (stand.Used v u) event peer key killed is says held names own was stays = absurd was
-spend_held d e (Both h) (stand.KeyGiven v u) event peer key killed is says held names own was stays = absurd was
-spend_held d e (Both h) (stand.PeerGiven v u) event peer key killed is says held names own was stays = absurd was
+spend_held d e (Both h) _ event peer key killed is says held names own was stays = absurd was
 spend_held d e NoHold s event peer key killed is says held names own was stays = absurd names
 spend_held d e (PeerLeft h) s event peer key killed is says held names own was stays = absurd names
 

@@ -135,19 +135,8 @@ IsPastDraw (stand.Drew h r) = ⊥
 IsPastDraw _ = ⊤
 
 judged_reply : (h : HoldView) (r : Reply) → IsPastDraw (judged_used h r)
-judged_reply h (reply.Made n) = tt
-judged_reply h reply.Done = tt
-judged_reply h (reply.Peer p) = tt
-judged_reply h (reply.Removed ns) = tt
-judged_reply h (reply.Hold x) = tt
-judged_reply h reply.NoPeer = tt
-judged_reply h reply.NoKey = tt
 judged_reply h (reply.Settled x) = tt
-judged_reply h reply.Killed = tt
-judged_reply h reply.AlreadyGone = tt
-judged_reply h (reply.Released n) = tt
-judged_reply h (reply.KeyReleased n) = tt
-judged_reply h (reply.Refused x) = tt
+judged_reply h _ = tt
 
 judged_stays : (h : HoldView) (e : Event) → IsPastDraw (see (stand.Judged h) e)
 judged_stays h (Stepped s) = judged_reply h s.entry.reply

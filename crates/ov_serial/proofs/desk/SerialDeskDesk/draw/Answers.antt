@@ -48,5 +48,5 @@ is c = same_desk (now c) (after_draw (was c) c.args.key) refl refl refl
 pub invariant_of-self : goal.invariant_of-self
 invariant_of-self c = subst Sound (sym (is c)) (done c).sound
 
-pub returns-clause-drew : goal.returns-clause-drew
-returns-clause-drew c = did_at c.self.view_is (is c) (ap (λ r. Drew c.args.key r) (drew c)) (done c).did
+pub returns : goal.returns
+returns c = record { drew = did_at c.self.view_is (is c) (ap (λ r. Drew c.args.key r) (drew c)) (done c).did }

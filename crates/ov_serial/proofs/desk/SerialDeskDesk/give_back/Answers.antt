@@ -28,5 +28,5 @@ is c = same_desk (now c) (after_peer (was c) c.args.peer) refl refl refl refl c.
 pub invariant_of-self : goal.invariant_of-self
 invariant_of-self c = subst Sound (sym (is c)) (done c).sound
 
-pub returns-clause-gave : goal.returns-clause-gave
-returns-clause-gave c = did_at c.self.view_is (is c) refl (done c).did
+pub returns : goal.returns
+returns c = record { gave = did_at c.self.view_is (is c) refl (done c).did }

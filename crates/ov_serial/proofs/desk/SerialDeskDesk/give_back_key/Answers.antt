@@ -35,5 +35,5 @@ is c = same_desk (now c) (after_key (was c) c.args.key) refl refl refl refl
 pub invariant_of-self : goal.invariant_of-self
 invariant_of-self c = subst Sound (sym (is c)) (done c).sound
 
-pub returns-clause-gave : goal.returns-clause-gave
-returns-clause-gave c = did_at c.self.view_is (is c) (ap (λ g. GaveKey c.args.key g) (given_is c)) (done c).did
+pub returns : goal.returns
+returns c = record { gave = did_at c.self.view_is (is c) (ap (λ g. GaveKey c.args.key g) (given_is c)) (done c).did }

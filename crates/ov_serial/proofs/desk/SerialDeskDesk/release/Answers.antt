@@ -53,5 +53,5 @@ step-requires c =
 pub invariant_of-self : goal.invariant_of-self
 invariant_of-self c = subst Sound (sym (is c)) (done c).sound
 
-pub returns-clause-released : goal.returns-clause-released
-returns-clause-released c = did_at c.self.view_is (is c) refl (done c).did
+pub returns : goal.returns
+returns c = record { released = did_at c.self.view_is (is c) refl (done c).did }
