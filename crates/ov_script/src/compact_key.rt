@@ -42,7 +42,8 @@ fn direction(text: &[u8]) -> Option<(Digits, &[u8])>
 
 /// The parts of such a line.
 fn key_parts(line: &[u8]) -> Option<Parts>
-    ensures { IfSome result (λ p. line.now ≡ spec.key_text p.at p.opening.key.now p.opening.tail.now p.sealing.key.now p.sealing.tail.now p.key_id p.peer p.lane) }
+    ensures { IfSome result (λ p. line.now ≡ spec.key_text p.at p.opening.key.now p.opening.tail.now
+        p.sealing.key.now p.sealing.tail.now p.key_id p.peer p.lane) }
 {
     let (at, rest) = number(after(line, b"{\"at\":")?)?;
     let front = b",\"do\":\"key-new\",\"keyconf\":{\"cipher-alg\":\"aes-gcm\",\"decrypt-dir\":";

@@ -23,7 +23,8 @@ struct Parts<'a> {
 
 /// The parts of such a line.
 fn new_parts(line: &[u8]) -> Option<Parts>
-    ensures { IfSome result (λ p. line.now ≡ spec.new_text p.at p.lane p.id p.remote.now p.port p.vpn.now) }
+    ensures { IfSome result (λ p. line.now
+        ≡ spec.new_text p.at p.lane p.id p.remote.now p.port p.vpn.now) }
 {
     let (at, rest) = number(after(line, b"{\"at\":")?)?;
     let (lane, rest) = number(after(rest, b",\"do\":\"peer-new\",\"lane\":")?)?;

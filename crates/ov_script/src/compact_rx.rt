@@ -24,7 +24,8 @@ struct Parts<'a> {
 
 /// The parts of such a line.
 fn rx_parts(line: &[u8]) -> Option<Parts>
-    ensures { IfSome result (λ p. line.now ≡ spec.rx_text p.at p.digits.now p.addr.now p.port p.lane) }
+    ensures { IfSome result (λ p. line.now
+        ≡ spec.rx_text p.at p.digits.now p.addr.now p.port p.lane) }
 {
     let (at, rest) = number(after(line, b"{\"at\":")?)?;
     let (digits, rest) = until_quote(after(rest, b",\"datagram\":\"")?)?;

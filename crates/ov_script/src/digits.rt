@@ -53,7 +53,8 @@ fn sixteen(digits: &[u8; 32]) -> Option<[u8; 16]>
 /// The bytes of fewer than 32 digits, behind which zeros are added; `None` where one is no digit.
 fn padded(digits: &[u8]) -> Option<[u8; 16]>
     requires few { length digits.now < 32 }
-    ensures { IfSome result (λ bytes. (others : List ℕ) × spec.AreDigits (digits.now ++ others) bytes) }
+    ensures { IfSome result (λ bytes. (others : List ℕ)
+        × spec.AreDigits (digits.now ++ others) bytes) }
 {
     let mut whole = [b'0'; 32];
     whole[..digits.len()].copy_from_slice(digits);
@@ -64,7 +65,8 @@ fn padded(digits: &[u8]) -> Option<[u8; 16]>
 /// of those read is no digit.
 fn add_front<'a>(digits: &'a [u8], bytes: &mut Vec<u8>) -> Result<Option<&'a [u8]>, Memory>
     requires empty { bytes.old.items ≡ [] }
-    ensures { IfOk result (λ found. IfSome found (λ rest. (length rest.now < 32) × spec.ReadTo digits.now rest.now bytes.new.items)) }
+    ensures { IfOk result (λ found. IfSome found (λ rest. (length rest.now < 32)
+        × spec.ReadTo digits.now rest.now bytes.new.items)) }
 {
     let mut rest = digits;
     'turns: while let Some((front, behind)) = rest.split_first_chunk::<32>() {

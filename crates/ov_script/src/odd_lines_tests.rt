@@ -3,7 +3,7 @@ use crate::{LineStop, read_line};
 
 #[test]
 fn an_odd_line_of_the_grammar_is_read_as_without_the_first_look(rt: HostRuntime) {
-    let rows: [&[u8]; 43] = [
+    let rows: [&[u8]; 56] = [
         // 0: the texts that are looked at first
         br#"{"at":1,"do":"tx","lane":2,"packet":"45aF"}"#,
         br#"{"at":1,"datagram":"4a00","do":"rx","from":{"addr":"192.0.2.1","port":1194},"lane":2}"#,
@@ -54,6 +54,20 @@ fn an_odd_line_of_the_grammar_is_read_as_without_the_first_look(rt: HostRuntime)
         // 41: the text of an IPv6 address
         br#"{"at":1,"datagram":"4a00","do":"rx","from":{"addr":"20010db8000000000000000000000001","port":1194},"lane":2}"#,
         br#"{"at":1,"datagram":"4a00","do":"rx","from":{"addr":"20010DB8000000000000000000000001","port":1194},"lane":2}"#,
+        // 43: peers and keys
+        br#"{"at":0,"do":"peer-new","lane":1,"peer":{"id":5,"remote-ipv4":"192.0.2.1","remote-port":1194,"vpn-ipv4":"10.8.0.5"}}"#,
+        br#"{"at":0,"do":"peer-new","lane":1,"peer":{"id":0,"remote-ipv4":"192.0.2.1","remote-port":1,"vpn-ipv4":"10.8.0.5"}}"#,
+        br#"{"at":0,"do":"peer-new","lane":1,"peer":{"id":16777215,"remote-ipv4":"192.0.2.1","remote-port":65535,"vpn-ipv4":"10.8.0.5"}}"#,
+        br#"{"at":0,"do":"peer-new","lane":1,"peer":{ "id":5,"remote-ipv4":"192.0.2.1","remote-port":1194,"vpn-ipv4":"10.8.0.5"}}"#,
+        br#"{"at":0,"do":"peer-new","lane":1,"peer":{"remote-ipv4":"192.0.2.1","remote-port":1194,"vpn-ipv4":"10.8.0.5","id":5}}"#,
+        br#"{"at":0,"do":"peer-new","lane":1,"peer":{"id":5,"remote-ipv4":"192.0.2\u002e1","remote-port":1194,"vpn-ipv4":"10.8.0.5"}}"#,
+        br#"{"at":0,"do":"key-new","keyconf":{"cipher-alg":"aes-gcm","decrypt-dir":{"cipher-key":"000102030405060708090a0b0c0d0e0f","nonce-tail":"0001020304050607"},"encrypt-dir":{"cipher-key":"ff0102030405060708090a0b0c0d0e0f","nonce-tail":"FE01020304050607"},"key-id":2,"peer-id":5,"slot":"primary"},"lane":1}"#,
+        br#"{"at":0,"do":"key-new","keyconf":{"cipher-alg":"aes-gcm","decrypt-dir":{"cipher-key":"000102030405060708090a0b0c0d0e0f0001020304050607","nonce-tail":"0001020304050607"},"encrypt-dir":{"cipher-key":"000102030405060708090a0b0c0d0e0f000102030405060708090a0b0c0d0e0f","nonce-tail":"FE01020304050607"},"key-id":2,"peer-id":5,"slot":"primary"},"lane":1}"#,
+        br#"{"at":0,"do":"key-new","keyconf":{"cipher-alg":"aes-gcm","decrypt-dir":{"cipher-key":"000102030405060708090a0b0c0d0e0f","nonce-tail":"0001020304050607"},"encrypt-dir":{"cipher-key":"ff0102030405060708090a0b0c0d0e0f","nonce-tail":"FE01020304050607"},"key-id":0,"peer-id":0,"slot":"primary"},"lane":1}"#,
+        br#"{"at":0,"do":"key-new","keyconf":{"cipher-alg":"aes-gcm","decrypt-dir":{"cipher-key":"000102030405060708090a0b0c0d0e0f","nonce-tail":"0001020304050607"},"encrypt-dir":{"cipher-key":"ff0102030405060708090a0b0c0d0e0f","nonce-tail":"FE01020304050607"},"key-id":7,"peer-id":16777215,"slot":"primary"},"lane":1}"#,
+        br#"{"at":0,"do":"key-new","keyconf":{"cipher-alg":"aes-gcm","decrypt-dir":{"cipher-key":"000102030405060708090a0b0c0d0e0f","nonce-tail":"0001020304050607"},"encrypt-dir":{"cipher-key":"ff0102030405060708090a0b0c0d0e0f","nonce-tail":"FE01020304050607"},"key-id":2,"peer-id":5,"slot":"pri\u006dary"},"lane":1}"#,
+        br#"{"at":0,"do":"key-new","keyconf":{"cipher-alg":"aes-gcm","decrypt-dir":{"cipher-key":"000102030405060708090a0b0c0d0e0f","nonce-tail":"0001020304050607"},"encrypt-dir":{"cipher-key":"ff0102030405060708090a0b0c0d0e0f","nonce-tail":"FE01020304050607"},"key-id":9,"key-id":2,"peer-id":5,"slot":"primary"},"lane":1}"#,
+        br#"{"at":0,"do":"key-new","keyconf":{"cipher-alg":"aes-gcm","decrypt-dir":{"cipher-key":"000102030405060708090a0b0c0d0e0f","nonce-tail":"0001020304050607"},"encrypt-dir":{"cipher-key":"ff0102030405060708090a0b0c0d0e0f","nonce-tail":"FE01020304050607"},"key-id":2,"peer-id":5,"slot":"primary"}, "lane":1}"#,
     ];
     for (number, bytes) in rows.iter().enumerate() {
         let read = read_line(rt.alloc(), bytes, 4);
@@ -64,7 +78,7 @@ fn an_odd_line_of_the_grammar_is_read_as_without_the_first_look(rt: HostRuntime)
 
 #[test]
 fn an_odd_line_outside_the_grammar_is_bad_as_without_the_first_look(rt: HostRuntime) {
-    let rows: [&[u8]; 87] = [
+    let rows: [&[u8]; 116] = [
         // 0: numbers: a sign, a fraction, an exponent, leading zeros, too large, none
         br#"{"at":-1,"do":"tx","lane":2,"packet":"45aF"}"#,
         br#"{"at":-0,"do":"tx","lane":2,"packet":"45aF"}"#,
@@ -161,6 +175,37 @@ fn an_odd_line_outside_the_grammar_is_bad_as_without_the_first_look(rt: HostRunt
         br#"{"at":1,"datagram":"4a00","do":"rx","from":null,"lane":2}"#,
         br#"{"at":1,"datagram":"4a00","do":"rx","from":{"addr":"192.0.2.1","port":1194,"id":1},"lane":2}"#,
         br#"{"at":1,"packet":"4a00","do":"rx","from":{"addr":"192.0.2.1","port":1194},"lane":2}"#,
+        // 87: peers
+        br#"{"at":0,"do":"peer-new","lane":1,"peer":{"id":16777216,"remote-ipv4":"192.0.2.1","remote-port":1194,"vpn-ipv4":"10.8.0.5"}}"#,
+        br#"{"at":0,"do":"peer-new","lane":1,"peer":{"id":05,"remote-ipv4":"192.0.2.1","remote-port":1194,"vpn-ipv4":"10.8.0.5"}}"#,
+        br#"{"at":0,"do":"peer-new","lane":1,"peer":{"id":-1,"remote-ipv4":"192.0.2.1","remote-port":1194,"vpn-ipv4":"10.8.0.5"}}"#,
+        br#"{"at":0,"do":"peer-new","lane":1,"peer":{"id":5,"remote-ipv4":"192.0.2.1","remote-port":0,"vpn-ipv4":"10.8.0.5"}}"#,
+        br#"{"at":0,"do":"peer-new","lane":1,"peer":{"id":5,"remote-ipv4":"192.0.2.1","remote-port":65536,"vpn-ipv4":"10.8.0.5"}}"#,
+        br#"{"at":0,"do":"peer-new","lane":1,"peer":{"id":5,"remote-ipv4":"192.0.2.1","remote-port":4294968490,"vpn-ipv4":"10.8.0.5"}}"#,
+        br#"{"at":0,"do":"peer-new","lane":1,"peer":{"id":5,"remote-ipv4":"192.0.2.01","remote-port":1194,"vpn-ipv4":"10.8.0.5"}}"#,
+        br#"{"at":0,"do":"peer-new","lane":1,"peer":{"id":5,"remote-ipv4":"192.0.2.1","remote-port":1194,"vpn-ipv4":"10.8.0"}}"#,
+        br#"{"at":0,"do":"peer-new","lane":1,"peer":{"id":5,"remote-ipv4":"192.0.2.1","remote-port":1194,"vpn-ipv4":"10.8.0.5."}}"#,
+        br#"{"at":0,"do":"peer-new","lane":4,"peer":{"id":5,"remote-ipv4":"192.0.2.1","remote-port":1194,"vpn-ipv4":"10.8.0.5"}}"#,
+        br#"{"at":0,"do":"peer-new","lane":1,"peer":{"id":5,"remote-ipv4":"192.0.2.1","remote-port":1194,"vpn-ipv4":"10.8.0.5"}"#,
+        br#"{"at":0,"do":"peer-new","lane":1,"peer":{"id":5,"remote-ipv4":"192.0.2.1","remote-port":1194,"vpn-ipv4":"10.8.0.5"}}}"#,
+        // 99: keys
+        br#"{"at":0,"do":"key-new","keyconf":{"cipher-alg":"aes-gcm","decrypt-dir":{"cipher-key":"000102030405060708090a0b0c0d0e0f","nonce-tail":"0001020304050607"},"encrypt-dir":{"cipher-key":"ff0102030405060708090a0b0c0d0e0f","nonce-tail":"FE01020304050607"},"key-id":8,"peer-id":5,"slot":"primary"},"lane":1}"#,
+        br#"{"at":0,"do":"key-new","keyconf":{"cipher-alg":"aes-gcm","decrypt-dir":{"cipher-key":"000102030405060708090a0b0c0d0e0f","nonce-tail":"0001020304050607"},"encrypt-dir":{"cipher-key":"ff0102030405060708090a0b0c0d0e0f","nonce-tail":"FE01020304050607"},"key-id":02,"peer-id":5,"slot":"primary"},"lane":1}"#,
+        br#"{"at":0,"do":"key-new","keyconf":{"cipher-alg":"aes-gcm","decrypt-dir":{"cipher-key":"000102030405060708090a0b0c0d0e0f","nonce-tail":"0001020304050607"},"encrypt-dir":{"cipher-key":"ff0102030405060708090a0b0c0d0e0f","nonce-tail":"FE01020304050607"},"key-id":2,"peer-id":16777216,"slot":"primary"},"lane":1}"#,
+        br#"{"at":0,"do":"key-new","keyconf":{"cipher-alg":"aes-gcm","decrypt-dir":{"cipher-key":"000102030405060708090a0b0c0d0e0f","nonce-tail":"0001020304050607"},"encrypt-dir":{"cipher-key":"ff0102030405060708090a0b0c0d0e0f","nonce-tail":"FE01020304050607"},"key-id":2,"peer-id":5,"slot":"secondary"},"lane":1}"#,
+        br#"{"at":0,"do":"key-new","keyconf":{"cipher-alg":"none","decrypt-dir":{"cipher-key":"000102030405060708090a0b0c0d0e0f","nonce-tail":"0001020304050607"},"encrypt-dir":{"cipher-key":"ff0102030405060708090a0b0c0d0e0f","nonce-tail":"FE01020304050607"},"key-id":2,"peer-id":5,"slot":"primary"},"lane":1}"#,
+        br#"{"at":0,"do":"key-new","keyconf":{"cipher-alg":"aes-gcm","decrypt-dir":{"cipher-key":"000102030405060708090a0b0c0d0e","nonce-tail":"0001020304050607"},"encrypt-dir":{"cipher-key":"ff0102030405060708090a0b0c0d0e0f","nonce-tail":"FE01020304050607"},"key-id":2,"peer-id":5,"slot":"primary"},"lane":1}"#,
+        br#"{"at":0,"do":"key-new","keyconf":{"cipher-alg":"aes-gcm","decrypt-dir":{"cipher-key":"000102030405060708090a0b0c0d0e0f00","nonce-tail":"0001020304050607"},"encrypt-dir":{"cipher-key":"ff0102030405060708090a0b0c0d0e0f","nonce-tail":"FE01020304050607"},"key-id":2,"peer-id":5,"slot":"primary"},"lane":1}"#,
+        br#"{"at":0,"do":"key-new","keyconf":{"cipher-alg":"aes-gcm","decrypt-dir":{"cipher-key":"000102030405060708090a0b0c0d0e0","nonce-tail":"0001020304050607"},"encrypt-dir":{"cipher-key":"ff0102030405060708090a0b0c0d0e0f","nonce-tail":"FE01020304050607"},"key-id":2,"peer-id":5,"slot":"primary"},"lane":1}"#,
+        br#"{"at":0,"do":"key-new","keyconf":{"cipher-alg":"aes-gcm","decrypt-dir":{"cipher-key":"000102030405060708090a0b0c0d0e0f","nonce-tail":"0001020304050607"},"encrypt-dir":{"cipher-key":"","nonce-tail":"FE01020304050607"},"key-id":2,"peer-id":5,"slot":"primary"},"lane":1}"#,
+        br#"{"at":0,"do":"key-new","keyconf":{"cipher-alg":"aes-gcm","decrypt-dir":{"cipher-key":"000102030405060708090a0b0c0d0e0f","nonce-tail":"0001020304050607"},"encrypt-dir":{"cipher-key":"g00102030405060708090a0b0c0d0e0f","nonce-tail":"FE01020304050607"},"key-id":2,"peer-id":5,"slot":"primary"},"lane":1}"#,
+        br#"{"at":0,"do":"key-new","keyconf":{"cipher-alg":"aes-gcm","decrypt-dir":{"cipher-key":"000102030405060708090a0b0c0d0e0f","nonce-tail":"00010203040506"},"encrypt-dir":{"cipher-key":"ff0102030405060708090a0b0c0d0e0f","nonce-tail":"FE01020304050607"},"key-id":2,"peer-id":5,"slot":"primary"},"lane":1}"#,
+        br#"{"at":0,"do":"key-new","keyconf":{"cipher-alg":"aes-gcm","decrypt-dir":{"cipher-key":"000102030405060708090a0b0c0d0e0f","nonce-tail":"0001020304050607"},"encrypt-dir":{"cipher-key":"ff0102030405060708090a0b0c0d0e0f","nonce-tail":"000102030405060700"},"key-id":2,"peer-id":5,"slot":"primary"},"lane":1}"#,
+        br#"{"at":0,"do":"key-new","keyconf":{"cipher-alg":"aes-gcm","decrypt-dir":{"cipher-key":"000102030405060708090a0b0c0d0e0f","nonce-tail":"0001020304050607"},"encrypt-dir":{"cipher-key":"ff0102030405060708090a0b0c0d0e0f","nonce-tail":"000102030405060g"},"key-id":2,"peer-id":5,"slot":"primary"},"lane":1}"#,
+        br#"{"at":0,"do":"key-new","keyconf":{"cipher-alg":"aes-gcm","decrypt-dir":{"cipher-key":"000102030405060708090a0b0c0d0e0f","nonce-tail":"0001020304050607"},"encrypt-dir":{"cipher-key":"ff0102030405060708090a0b0c0d0e0f","nonce-tail":"FE01020304050607"},"key-id":2,"peer-id":5,"slot":"primary"},"lane":4}"#,
+        br#"{"at":4294967296,"do":"key-new","keyconf":{"cipher-alg":"aes-gcm","decrypt-dir":{"cipher-key":"000102030405060708090a0b0c0d0e0f","nonce-tail":"0001020304050607"},"encrypt-dir":{"cipher-key":"ff0102030405060708090a0b0c0d0e0f","nonce-tail":"FE01020304050607"},"key-id":2,"peer-id":5,"slot":"primary"},"lane":1}"#,
+        br#"{"at":0,"do":"key-new","keyconf":{"cipher-alg":"aes-gcm","decrypt-dir":{"cipher-key":"000102030405060708090a0b0c0d0e0f","nonce-tail":"0001020304050607"},"encrypt-dir":{"cipher-key":"ff0102030405060708090a0b0c0d0e0f","nonce-tail":"FE01020304050607"},"key-id":2,"peer-id":5,"slot":"primary"},"lane":1"#,
+        br#"{"at":0,"do":"key-new","keyconf":{"cipher-alg":"aes-gcm","decrypt-dir":{"cipher-key":"000102030405060708090a0b0c0d0e0f","nonce-tail":"0001020304050607"},"encrypt-dir":{"cipher-key":"ff0102030405060708090a0b0c0d0e0f","nonce-tail":"FE01020304050607"},"key-id":2,"peer-id":5,"slot":"primary"},"lane":1}0"#,
     ];
     for (number, bytes) in rows.iter().enumerate() {
         assert!(rt;
