@@ -3,15 +3,12 @@
 ghost use Rattle.std.specs.Prelude.{IfSome};
 ghost use Rattle.ov_run.specs.Clauses.{Read};
 
-use crate::args::words_of;
 use crate::ended::{Cause, Ended};
 use crate::run::run_serial;
 use crate::told::tell;
 use ov_base::{ListOf, Memory, MemorySink, MemorySource, Octets, Sink};
 use ov_script::Limit;
 use std::alloc::Global;
-use std::io;
-use std::io::ErrorKind;
 use std::test::Fail;
 
 const PEER5: &str =
@@ -171,29 +168,6 @@ fn each_cause_is_told_in_its_words(rt: HostRuntime) -> Result<(), Fail> {
         let mut sink = MemorySink::new(rt.alloc(), 16, ListOf::new(rt.alloc()));
         assert_eq!(rt; tell(cause, &mut sink), Ok(()));
         assert_eq!(rt; sink.written(), text.as_bytes());
-    }
-    Ok(())
-}
-
-#[test]
-fn the_words_are_those_behind_the_name(rt: HostRuntime) -> Result<(), Fail> {
-    let mut given = Vec::new(rt.alloc());
-    for word in ["ovpn", "trace", "more"] {
-        given.push(String::from_str(rt.alloc(), word)?)?;
-    }
-    match words_of(rt.alloc(), Ok(given.into_iter())) {
-        Ok(words) => {
-            assert_eq!(rt; words.len(), 2);
-            assert!(rt; words[0].as_str() == "trace" && words[1].as_str() == "more");
-        }
-        Err(_) => assert!(rt; false),
-    }
-    for (kind, cause) in [
-        (ErrorKind::InvalidData, Cause::Usage),
-        (ErrorKind::OutOfMemory, Cause::Memory),
-    ] {
-        let refused: io::Result<std::env::Args> = Err(kind.into());
-        assert!(rt; words_of(rt.alloc(), refused).err() == Some(cause));
     }
     Ok(())
 }

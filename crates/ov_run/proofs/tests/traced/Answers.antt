@@ -1,5 +1,5 @@
 -- The source gave all that it held.
-use Rattle.std.proofs.Common.{List, ℕ, subst}
+use Rattle.std.proofs.Common.{List, ℕ, subst, rules, arith}
 use Rattle.std.specs.Prelude.{IfSome}
 use Rattle.ov_run.specs.Clauses.{Read}
 use Rattle.ov_run.proofs.Reporting.{read_all}
@@ -8,4 +8,4 @@ use Rattle.ov_run.proofs.tests.traced.Goals as goal
 pub returns : goal.returns
 returns g c =
     let P : List ℕ → Type 0 = λ b. IfSome c.run_serial.result.report (Read b) in
-    subst P (search rules) (read_all _ _ _ c.run_serial.ensures.taken c.run_serial.ensures.outcome)
+    subst P (first_of (search rules, grind arith, cc)) (read_all _ _ _ c.run_serial.ensures.taken c.run_serial.ensures.outcome)
