@@ -7,8 +7,8 @@ ghost use Rattle.ov_ghash.specs.Turn.{turns};
 
 /// A block that is turned by k bits is its product with x^k (SP 800-38D, section 6.3).
 ///
-/// The tables stand on it: a byte is taken by turning the sum by eight bits, and the table of a byte's
-/// second half is made of the subkey turned by four.
+/// The rows stand on it: a row more turns the sum by eight bits, and the rows of a byte's second half are
+/// of the subkey turned by four.
 pub fn turning_multiplies()
     ensures by_any { (k z : ℕ) → z < 2 ^ 128 → bits 128 (turns k z) ≡ times (power variable k) (bits 128 z) }
     ensures by_four { (z : ℕ) → z < 2 ^ 128 → bits 128 (turns 4 z) ≡ times (power variable 4) (bits 128 z) }

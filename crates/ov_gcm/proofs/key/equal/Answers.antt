@@ -1,4 +1,4 @@
-use Rattle.std.proofs.Common.{◌≡◌, ℕ, length, refl, sym, ap, subst, ◌∙◌, arith, rules}
+use Rattle.std.proofs.Common.{◌≡◌, length, refl, subst, arith, rules}
 use Rattle.std.proofs.lemmas.Bool.{eqb-true, eq-eqb}
 use Rattle.ov_gcm.proofs.Equal.{Same, same_more, none_more, same_lists}
 use Rattle.ov_gcm.proofs.key.equal.Goals as goal

@@ -1,4 +1,4 @@
-use Rattle.std.proofs.Common.{◌≡◌, ℕ}
+use Rattle.std.proofs.Common.{◌≡◌}
 use Rattle.ov_gcm.proofs.Equal.{Same}
 use Rattle.ov_gcm.proofs.key.equal.Given as goal
 

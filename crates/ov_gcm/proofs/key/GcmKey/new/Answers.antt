@@ -1,4 +1,4 @@
-use Rattle.std.proofs.Common.{sym, ap, ◌∙◌, List, ℕ, subst}
+use Rattle.std.proofs.Common.{sym, ap, ◌∙◌, subst}
 use Rattle.ov_ghash.specs.Ghash.{IsPrepared, prepared}
 use Rattle.ov_gcm.specs.Gcm.{hash_key}
 use Rattle.ov_gcm.proofs.key.GcmKey.new.Goals as goal
