@@ -18,7 +18,13 @@ use Rattle.ov_model.specs.Events.{Event, Drew}
 use Rattle.ov_model.specs.Path.{SomeOf, none, kept, passed, removed}
 use Rattle.ov_model.specs.Next.{stand_of, drew}
 use Rattle.ov_path.specs.Desks.{Holding, NoHold, Both, PeerLeft, HoldsKey, IsLooked, Joins, HasMaterial}
-use Rattle.ov_path.specs.Plain.{Kept, Sound, Joined, one_key, listed, taken_by, need, owes}
+use Rattle.ov_base.specs.declared.address.Addr.{Addr}
+use Rattle.ov_model.specs.declared.place.Place.{Place}
+use Rattle.ov_model.specs.declared.line.Line.{Line}
+use Rattle.ov_path.specs.declared.walk.Progress.{Progress}
+use Rattle.ov_path.specs.declared.walk.Progress.TheVariants.{More, Answered}
+use Rattle.ov_path.specs.Walks.{MadeBy, made, nothing}
+use Rattle.ov_path.specs.Plain.{shown_of, Kept, Sound, Joined, one_key, listed, taken_by, need, owes}
 use Rattle.ov_path.proofs.Going.{seen}
 
 -- ---- what is owed
@@ -110,3 +116,11 @@ has_key m (act.Settle peer from kind inner outer) h = tt
 has_key m (act.Spend peer key) h = tt
 has_key m (act.Released peer) h = tt
 has_key m (act.KeyReleased key) h = tt
+
+-- ---- the next hops
+
+-- Whatever a turn did, the desk has the next hop that it had.
+pub hop_stays : {via : Addr → Addr} {place : Place} {line : Line} {d e : Kept} (r : Progress) → MadeBy shown_of (λ (p : Kept) (x : Event) (q : Kept). q.hop ≡ p.hop) via place line r d e → e.hop ≡ d.hop
+hop_stays More m = m.done
+hop_stays (Answered a) (made m) = m.done
+hop_stays (Answered a) (nothing nil same) = ap (λ (k : Kept). k.hop) same

@@ -234,11 +234,14 @@ impl Walk {
         packet: Octets,
     ) -> Result<Progress, Memory>
         ghost via: { Addr → Addr }
-        requires at { Walking via self.old.place line.now (D.view desk.old) (stage.Judged hold packet) }
+        requires at { Walking via self.old.place line.now (D.view desk.old)
+            (stage.Judged hold packet) }
         requires hop { (D.view desk.old).via ≡ via }
         requires fits { Fits line.now.deed }
-        ensures then { OnOk result (GoesOn via self.new.place line.now (D.view desk.new) self.new.stage) }
-        ensures made { OnOk result (Made D.view D.does via self.old.place line.now desk.old desk.new) }
+        ensures then { OnOk result
+            (GoesOn via self.new.place line.now (D.view desk.new) self.new.stage) }
+        ensures made { OnOk result
+            (Made D.view D.does via self.old.place line.now desk.old desk.new) }
         ensures more { IfOk result (λ r. r ≡ More) }
         ensures err { OnErr result (SameLine (D.view desk.old) (D.view desk.new)) }
         ensures kept { OnErr result (self.new ≡ record self.old {
@@ -268,7 +271,8 @@ impl Walk {
         answer: Answer,
     )
         ghost via: { Addr → Addr }
-        requires at { Walking via self.old.place line.now (D.view desk.old) (stage.Used hold made answer) }
+        requires at { Walking via self.old.place line.now (D.view desk.old)
+            (stage.Used hold made answer) }
         ensures then { GoesOn via self.new.place line.now (D.view desk.new) self.new.stage }
         ensures made { Made D.view D.does via self.old.place line.now desk.old desk.new }
         ensures stays { Stays (D.view desk.old) (D.view desk.new) self.old self.new }
@@ -287,7 +291,8 @@ impl Walk {
         answer: Answer,
     ) -> Progress
         ghost via: { Addr → Addr }
-        requires at { Walking via self.old.place line.now (D.view desk.old) (stage.KeyGiven hold made answer) }
+        requires at { Walking via self.old.place line.now (D.view desk.old)
+            (stage.KeyGiven hold made answer) }
         requires none { (D.view desk.old).owing ≡ [] }
         ensures then { Turned via line.now (D.view desk.new) self.new result }
         ensures made { MadeBy D.view D.does via self.old.place line.now result desk.old desk.new }
@@ -386,7 +391,8 @@ fn receive<D: Desk>(
     id: u32,
 ) -> Result<Stage, Memory>
     ghost via: { Addr → Addr }
-    requires at { Walking via place line.now (D.view desk.old) (stage.Looked hold (purpose.Open id)) }
+    requires at { Walking via place line.now (D.view desk.old)
+        (stage.Looked hold (purpose.Open id)) }
     requires fits { Fits line.now.deed }
     ensures then { IfOk result (λ s. GoesOn via place line.now (D.view desk.new) s) }
     ensures made { OnOk result (Made D.view D.does via place line.now desk.old desk.new) }

@@ -2,6 +2,8 @@
 
 ghost use Rattle.std.specs.Prelude.{◌≤◌, length, IfOk};
 ghost use Rattle.ov_model.specs.Sizes.{Fits};
+ghost use Rattle.ov_path.specs.Plain.{shown_of, hop_or};
+ghost use Rattle.ov_path.specs.Walks.{Walking, IsOpen, Progressed};
 
 use super::plain::Plain;
 use super::told::{Kind, Told};
@@ -125,6 +127,18 @@ fn netlink(op: NlOp, peer: Option<NlPeer>) -> Line
     }
 }
 
+/// Makes one turn of a line. The desk's next hops stay.
+fn turn(alloc: Global, desk: &mut Plain, walk: &mut Walk, line: &Line) -> Result<Progress, Memory>
+    requires at { Walking (hop_or desk.old.hop) walk.old.place line.now (shown_of desk.old) walk.old.stage }
+    requires open { IsOpen walk.old.stage (shown_of desk.old).owing }
+    requires fits { Fits line.now.deed }
+    ensures then { IfOk result (λ r.
+        Progressed (hop_or desk.new.hop) walk.new.place line.now (shown_of desk.new) walk.new.stage r) }
+{
+    let progress = walk.turn(alloc, desk, line)?;
+    Ok(progress)
+}
+
 /// Runs a line to its answer; None where twelve turns didn't reach it.
 fn run(alloc: Global, desk: &mut Plain, line: &Line) -> Result<Option<Answer>, Memory>
     requires { Fits line.now.deed }
@@ -132,7 +146,7 @@ fn run(alloc: Global, desk: &mut Plain, line: &Line) -> Result<Option<Answer>, M
     desk.begin();
     let mut walk = Walk::new(Place { lane: 0, line: 0 });
     for _turn in 0..12 {
-        match walk.turn(alloc, desk, line)? {
+        match turn(alloc, desk, &mut walk, line)? {
             Progress::More => {}
             Progress::Answered(answer) => return Ok(Some(answer)),
         }
