@@ -40,6 +40,7 @@ pub record SourceState : Type 0 where
   pub steady : SteadyState
   pub failures : Failures
 
+-- the answer of a read, into a buffer with this room: a planned fault, or what the source gives
 abbrev pub got_of : SourceState → ℕ → Got
 got_of s room = if is_planned s.failures then got.Failed else gives s.steady room
 

@@ -43,6 +43,7 @@ one_accepted = record { id = 3000; moment = 10 } ∷ []
 abbrev pub two_accepted : ℕ → List Accepted
 two_accepted later = record { id = 5; moment = 0 } ∷ record { id = 9; moment = later } ∷ []
 
+-- The replay rule: its rows at their edges, and the floor after a silence.
 pub record WindowExamples : Type 0 where
   pub first : verdict_of [] 1 0 ≡ Accept
   pub zero_id : verdict_of one_accepted 0 10 ≡ Zero
@@ -69,13 +70,15 @@ example_dir = record { key = K16 (0 ∷ 1 ∷ 2 ∷ 3 ∷ 4 ∷ 5 ∷ 6 ∷ 7 �
 abbrev pub example_datagram : List ℕ
 example_datagram = 0x4a ∷ 0x00 ∷ 0x01 ∷ 0x02 ∷ 0x00 ∷ 0x00 ∷ 0x01 ∷ 0x00 ∷ 0x8d ∷ 0x83 ∷ 0xd8 ∷ 0x6d ∷ 0x13 ∷ 0xf2 ∷ 0x9a ∷ 0xa2 ∷ 0x55 ∷ 0xdd ∷ 0x17 ∷ 0xa0 ∷ 0xac ∷ 0x11 ∷ 0x0c ∷ 0x00 ∷ 0x73 ∷ 0x1b ∷ 0xde ∷ 0xd8 ∷ 0x31 ∷ 0x9e ∷ 0x73 ∷ 0x14 ∷ 0x91 ∷ 0x13 ∷ 0xff ∷ 0xb0 ∷ 0x96 ∷ 0xc0 ∷ 0x20 ∷ 0xa9 ∷ []
 
--- The same with the last bit of the tag, and with the last bit of the packet id, turned over.
+-- The same with the last bit of the tag turned over.
 abbrev pub other_tag : List ℕ
 other_tag = 0x4a ∷ 0x00 ∷ 0x01 ∷ 0x02 ∷ 0x00 ∷ 0x00 ∷ 0x01 ∷ 0x00 ∷ 0x8d ∷ 0x83 ∷ 0xd8 ∷ 0x6d ∷ 0x13 ∷ 0xf2 ∷ 0x9a ∷ 0xa2 ∷ 0x55 ∷ 0xdd ∷ 0x17 ∷ 0xa0 ∷ 0xac ∷ 0x11 ∷ 0x0c ∷ 0x01 ∷ 0x73 ∷ 0x1b ∷ 0xde ∷ 0xd8 ∷ 0x31 ∷ 0x9e ∷ 0x73 ∷ 0x14 ∷ 0x91 ∷ 0x13 ∷ 0xff ∷ 0xb0 ∷ 0x96 ∷ 0xc0 ∷ 0x20 ∷ 0xa9 ∷ []
 
+-- The same with the last bit of the packet id turned over.
 abbrev pub other_id : List ℕ
 other_id = 0x4a ∷ 0x00 ∷ 0x01 ∷ 0x02 ∷ 0x00 ∷ 0x00 ∷ 0x01 ∷ 0x01 ∷ 0x8d ∷ 0x83 ∷ 0xd8 ∷ 0x6d ∷ 0x13 ∷ 0xf2 ∷ 0x9a ∷ 0xa2 ∷ 0x55 ∷ 0xdd ∷ 0x17 ∷ 0xa0 ∷ 0xac ∷ 0x11 ∷ 0x0c ∷ 0x00 ∷ 0x73 ∷ 0x1b ∷ 0xde ∷ 0xd8 ∷ 0x31 ∷ 0x9e ∷ 0x73 ∷ 0x14 ∷ 0x91 ∷ 0x13 ∷ 0xff ∷ 0xb0 ∷ 0x96 ∷ 0xc0 ∷ 0x20 ∷ 0xa9 ∷ []
 
+-- Heads, and a datagram that opens, and doesn't with another tag or another packet id.
 pub record DatagramExamples : Type 0 where
   pub head : head_of example_datagram ≡ data_v2 258 2 256
   -- the opcodes 6 and 7, a head that is cut short, and one without the whole of its tag
@@ -88,13 +91,15 @@ pub record DatagramExamples : Type 0 where
   pub wrong_tag : opened example_dir other_tag ≡ None
   pub wrong_id : opened example_dir other_id ≡ None
 
--- A packet of IPv4 from 10.8.0.5 to 10.8.0.1, and one of IPv6 from fd00::5 to fd00::1.
+-- A packet of IPv4 from 10.8.0.5 to 10.8.0.1.
 abbrev pub packet_v4 : List ℕ
 packet_v4 = 69 ∷ 0 ∷ 0 ∷ 20 ∷ 0 ∷ 0 ∷ 0 ∷ 0 ∷ 0 ∷ 0 ∷ 0 ∷ 0 ∷ 10 ∷ 8 ∷ 0 ∷ 5 ∷ 10 ∷ 8 ∷ 0 ∷ 1 ∷ []
 
+-- A packet of IPv6 from fd00::5 to fd00::1.
 abbrev pub packet_v6 : List ℕ
 packet_v6 = 96 ∷ 0 ∷ 0 ∷ 0 ∷ 0 ∷ 0 ∷ 0 ∷ 0 ∷ 253 ∷ 0 ∷ 0 ∷ 0 ∷ 0 ∷ 0 ∷ 0 ∷ 0 ∷ 0 ∷ 0 ∷ 0 ∷ 0 ∷ 0 ∷ 0 ∷ 0 ∷ 5 ∷ 253 ∷ 0 ∷ 0 ∷ 0 ∷ 0 ∷ 0 ∷ 0 ∷ 0 ∷ 0 ∷ 0 ∷ 0 ∷ 0 ∷ 0 ∷ 0 ∷ 0 ∷ 1 ∷ []
 
+-- Inner packets of both versions and headers that are a byte short, and the keepalive message.
 pub record InnerExamples : Type 0 where
   pub of_v4 : inner_of packet_v4 ≡ v4 (10 ∷ 8 ∷ 0 ∷ 5 ∷ []) (10 ∷ 8 ∷ 0 ∷ 1 ∷ [])
   pub of_v6 : inner_of packet_v6 ≡ v6 (253 ∷ 0 ∷ 0 ∷ 0 ∷ 0 ∷ 0 ∷ 0 ∷ 0 ∷ 0 ∷ 0 ∷ 0 ∷ 0 ∷ 0 ∷ 0 ∷ 0 ∷ 5 ∷ []) (253 ∷ 0 ∷ 0 ∷ 0 ∷ 0 ∷ 0 ∷ 0 ∷ 0 ∷ 0 ∷ 0 ∷ 0 ∷ 0 ∷ 0 ∷ 0 ∷ 0 ∷ 1 ∷ [])
@@ -106,9 +111,11 @@ pub record InnerExamples : Type 0 where
 
 -- ---- messages
 
+-- A peer with no attribute given.
 abbrev pub no_attributes : NlPeer
 no_attributes = record { id = None; remote_ipv4 = None; remote_ipv6 = None; remote_ipv6_scope_id = None; remote_port = None; socket = None; socket_netnsid = None; vpn_ipv4 = None; vpn_ipv6 = None; local_ipv4 = None; local_ipv6 = None; local_port = None; keepalive_interval = None; keepalive_timeout = None }
 
+-- A message of an operation on peers.
 abbrev pub of_peer : NlOp → NlPeer → NlMessage
 of_peer o p = record { op = o; ifindex = None; peer = Some p; keyconf = None }
 
@@ -116,9 +123,11 @@ of_peer o p = record { op = o; ifindex = None; peer = Some p; keyconf = None }
 abbrev pub peer_5 : NlPeer
 peer_5 = record no_attributes { id = Some 5; remote_ipv4 = Some (192 ∷ 0 ∷ 2 ∷ 5 ∷ []); remote_port = Some 1194; vpn_ipv4 = Some (10 ∷ 8 ∷ 0 ∷ 5 ∷ []) }
 
+-- Where the peer 5 is reached.
 abbrev pub transport_5 : Transport
 transport_5 = record { addr = V4 (192 ∷ 0 ∷ 2 ∷ 5 ∷ []); port = 1194 }
 
+-- The attributes of the peer 5.
 abbrev pub attrs_5 : PeerId → Attrs
 attrs_5 id = record { id = id; remote = Some transport_5; vpn4 = Some (10 ∷ 8 ∷ 0 ∷ 5 ∷ []); vpn6 = None; keepalive = None }
 
@@ -128,9 +137,11 @@ of_key c long =
     let d : NlKeyDir = record { cipher_key = Some (replicate long 7); nonce_tail = Some (replicate 8 9) } in
     record { op = op.KeyNew; ifindex = None; peer = None; keyconf = Some (record { peer_id = Some 5; slot = Some Primary; key_id = Some 2; cipher = Some c; encrypt = Some d; decrypt = Some d }) }
 
+-- One direction of its key.
 abbrev pub dir_5 : KeyDir
 dir_5 = record { key = K16 (replicate 16 7); tail = replicate 8 9 }
 
+-- One message of each operation, and messages that are refused.
 pub record MessageExamples (id : PeerId) (key : KeyId) : Type 0 where
   pub peer_new : checked (of_peer op.PeerNew peer_5) ≡ Ok (command.PeerNew (attrs_5 id))
   pub peer_get : checked (of_peer op.PeerGet peer_5) ≡ Ok (command.PeerGet id)
@@ -150,10 +161,11 @@ pub record MessageExamples (id : PeerId) (key : KeyId) : Type 0 where
 
 -- ---- the peer table
 
--- The peer 5 is live, with two keys, and so many peers were made.
+-- The peer 5, live, with these keys.
 abbrev pub live_5 : PeerId → Option Key → Option Key → Peer
 live_5 id primary secondary = record (peer_of 0 0 (attrs_5 id) transport_5) { slots = record { primary = primary; secondary = secondary } }
 
+-- A table with the peer 5 alone, where so many peers were made.
 abbrev pub table_5 : PeerId → Option Key → Option Key → ℕ → Table
 table_5 id primary secondary made = record empty_table { live = live_5 id primary secondary ∷ []; made = made }
 

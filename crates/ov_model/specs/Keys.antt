@@ -28,14 +28,16 @@ abbrev pub conf_made : Act → Reply → List KeyConf
 conf_made (act.Do (command.KeyNew c)) (reply.Made serial) = c ∷ []
 conf_made _ _ = []
 
+-- The two directions in the attributes of a key.
 abbrev pub material_of : KeyConf → Material
 material_of c = record { encrypt = c.encrypt; decrypt = c.decrypt }
 
--- What the key with a serial is: as the one key-new with that serial for its reply says.
+-- What this act and reply say of the key with a serial: the key that they made, if it is that one.
 abbrev pub key_by : Act → Reply → ℕ → Option Material
 key_by (act.Do (command.KeyNew c)) (reply.Made serial) key = if serial == key then Some (material_of c) else None
 key_by _ _ key = None
 
+-- What the key with a serial is: as the one key-new with that serial for its reply says.
 abbrev pub key_of : List Entry → ℕ → Option Material
 key_of [] key = None
 key_of (e ∷ es) key = option_or (key_by e.call.act e.reply key) (key_of es key)
@@ -45,6 +47,7 @@ abbrev pub sealing_in : List Entry → List KeyDir
 sealing_in [] = []
 sealing_in (e ∷ es) = map (λ c. c.encrypt) (conf_made e.call.act e.reply) ++ sealing_in es
 
+-- Whether two directions have the same key bytes and the same nonce tail.
 abbrev pub same_dir : KeyDir → KeyDir → Bool
 same_dir a b = bytes_eq (key_list a.key) (key_list b.key) && bytes_eq a.tail b.tail
 
@@ -54,30 +57,35 @@ KeysDiffer journal = IsDistinct same_dir (sealing_in journal)
 
 -- ---- packet ids
 
--- The packet ids that a lane sealed under a key, in the order of its lines, and those of all lanes.
+-- The packet id that an answer sealed, with its key's serial.
 abbrev pub sealed_ids : Answer → List DrawnId
 sealed_ids (answer.Sealed s) = record { key = s.key; id = s.id } ∷ []
 sealed_ids _ = []
 
+-- The packet ids that some answers sealed, in the order of their lines, each with its key's serial.
 abbrev pub sealed_in : List Answer → List DrawnId
 sealed_in [] = []
 sealed_in (a ∷ answers) = sealed_ids a ++ sealed_in answers
 
+-- The ids of one key among some draws.
 abbrev pub ids_under : ℕ → List DrawnId → List ℕ
 ids_under key draws = map (λ d. d.id) (filter (λ d. d.key == key) draws)
 
+-- The packet ids that a lane sealed under a key, in the order of its lines.
 abbrev pub ids_of : List Answer → ℕ → List ℕ
 ids_of answers key = ids_under key (sealed_in answers)
 
+-- The packet ids that all lanes sealed under a key, lane after lane.
 abbrev pub ids_in : List LaneLog → ℕ → List ℕ
 ids_in [] key = []
 ids_in (log ∷ logs) key = ids_of log.answers key ++ ids_in logs key
 
--- Whether an entry says that a key is spent.
+-- Whether an act says that a key is spent.
 abbrev pub spends_key : ℕ → Act → Bool
 spends_key key (act.Spend peer spent) = spent == key
 spends_key key _ = false
 
+-- Whether an entry says that a key is spent.
 abbrev pub spends : ℕ → Entry → Bool
 spends key e = spends_key key e.call.act
 

@@ -28,7 +28,7 @@ OfEveryLegal P = (script : Script) (first : ℕ) (report : Report) → Legal scr
 
 -- ---- a line of a report
 
--- What a line of a lane had to do.
+-- What a line of a lane was asked for.
 pub record HasDeed (report : Report) (lane line : ℕ) (what : Deed) : Type 0 where
   pub log : LaneLog
   pub log_is : slice_get report.lanes lane ≡ Some log
@@ -36,7 +36,7 @@ pub record HasDeed (report : Report) (lane line : ℕ) (what : Deed) : Type 0 wh
   pub its_is : slice_get log.lines line ≡ Some its
   pub deed_is : its.deed ≡ what
 
--- It sent an inner packet.
+-- A line of a lane sent an inner packet.
 abbrev pub Sends : Report → (lane line : ℕ) → List ℕ → Type 0
 Sends report lane line packet = HasDeed report lane line (deed.Tx packet)
 

@@ -1,10 +1,11 @@
 -- The limits of a session and the numbers of the wire, each once.
 use Rattle.std.specs.Prelude.{ℕ, ◌+◌}
 
--- How many peers and how many keys a session may make.
+-- How many peers a session may make.
 abbrev pub most_peers : ℕ
 most_peers = 4096
 
+-- How many keys a session may make.
 abbrev pub most_keys : ℕ
 most_keys = 65536
 
@@ -20,22 +21,23 @@ greatest_key_id = 7
 abbrev pub greatest_packet_id : ℕ
 greatest_packet_id = 4294967295
 
--- How many bytes a data packet has before its ciphertext: the head, and the tag after it (AES in
--- Galois/Counter Mode has tags of 16 bytes here).
+-- The bytes of a data packet's head.
 abbrev pub head_length : ℕ
 head_length = 8
 
+-- The bytes of a tag: AES in Galois/Counter Mode has tags of 16 bytes here.
 abbrev pub tag_length : ℕ
 tag_length = 16
 
+-- The bytes of a data packet before its ciphertext: the head, and the tag after it.
 abbrev pub overhead : ℕ
 overhead = head_length + tag_length
 
--- How far below the greatest accepted packet id one may still come, and after how many seconds without an
--- accept all earlier ids are too old.
+-- How far below the greatest accepted packet id one may still come.
 abbrev pub window_places : ℕ
 window_places = 2048
 
+-- After how many seconds without an accept all earlier ids are too old.
 abbrev pub quiet_seconds : ℕ
 quiet_seconds = 30
 
@@ -43,9 +45,10 @@ quiet_seconds = 30
 abbrev pub shard_count : ℕ
 shard_count = 8
 
--- The most bytes of a received datagram, which is what UDP over IPv4 carries, and of an inner packet.
+-- The most bytes of a received datagram, which is what UDP over IPv4 carries.
 abbrev pub longest_datagram : ℕ
 longest_datagram = 65507
 
+-- The most bytes of an inner packet to be sent.
 abbrev pub longest_packet : ℕ
 longest_packet = 65483

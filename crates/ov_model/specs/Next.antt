@@ -26,10 +26,12 @@ use Rattle.ov_model.specs.Path.{Begin, at_once, first, begins, packet_in, sent_a
 
 -- ---- the stand
 
+-- Whether a reply says that the key was taken out of its slot as spent.
 abbrev pub is_killed : Reply → Bool
 is_killed reply.Killed = true
 is_killed _ = false
 
+-- After a look-up: it holds, or it found nothing.
 abbrev pub looked : Reply → Stand
 looked (reply.Hold h) = stand.Looked h
 looked _ = stand.Missed
@@ -41,15 +43,18 @@ began (act.TxLook a) r = looked r
 began (act.RxLook id key_id from) r = looked r
 began _ r = stand.Fresh
 
+-- After a step that follows a draw: sent with the id that was drawn, or spent.
 abbrev pub drew_used : HoldView → Drawn → Act → Reply → Stand
 drew_used h (drawn.Id n) (act.Sent peer inner outer ping) r = stand.Used h (used.Sealed n)
 drew_used h drawn.Spent (act.Spend peer key) r = stand.Used h (used.Spent (is_killed r))
 drew_used h d _ r = stand.Drew h d
 
+-- After a step that follows an accepted packet id: settled.
 abbrev pub judged_used : HoldView → Reply → Stand
 judged_used h (reply.Settled s) = stand.Used h (used.Settled s)
 judged_used h _ = stand.Judged h
 
+-- After a step of the table, by where the line stood.
 abbrev pub stepped : Stand → Act → Reply → Stand
 stepped stand.Fresh a r = began a r
 stepped (stand.Drew h d) a r = drew_used h d a r
@@ -64,24 +69,28 @@ judged_as h verdict.Old = stand.Used h (used.Refused refusal.Old)
 judged_as h verdict.Below = stand.Used h (used.Refused refusal.Below)
 judged_as h verdict.Again = stand.Used h (used.Refused refusal.Again)
 
+-- After a replay step, by where the line stood.
 abbrev pub judged : Stand → Verdict → Stand
 judged (stand.Looked h) v = judged_as h v
 judged s v = s
 
--- After a draw, and after the give-backs. A key that is given back unused had a tag that doesn't verify.
+-- After a draw.
 abbrev pub drew : Stand → Drawn → Stand
 drew (stand.Looked h) d = stand.Drew h d
 drew s d = s
 
+-- After the key was given back. One that is given back unused had a tag that doesn't verify.
 abbrev pub gave_key : Stand → Stand
 gave_key (stand.Looked h) = stand.KeyGiven h used.BadTag
 gave_key (stand.Used h u) = stand.KeyGiven h u
 gave_key s = s
 
+-- After the peer was given back.
 abbrev pub gave_peer : Stand → Stand
 gave_peer (stand.KeyGiven h u) = stand.PeerGiven h u
 gave_peer s = s
 
+-- Where an event leaves a line, by where it stood.
 abbrev pub see : Stand → Event → Stand
 see s (Stepped e) = stepped s e.entry.call.act e.entry.reply
 see s (Judged j) = judged s j.verdict
@@ -94,6 +103,7 @@ abbrev pub see_all : Stand → List Event → Stand
 see_all s [] = s
 see_all s (e ∷ es) = see_all (see s e) es
 
+-- Where its events so far leave a line.
 abbrev pub stand_of : List Event → Stand
 stand_of es = see_all stand.Fresh es
 
@@ -123,15 +133,17 @@ abbrev pub asks_first : Begin → Ask
 asks_first (at_once a) = Nil
 asks_first (first a) = Table a
 
--- With a hold: tx draws a packet id; rx has the id judged where the tag verifies.
+-- With a hold and its material, rx has the id judged where the tag verifies, and else gives the key back.
 abbrev pub asks_opened : HoldView → List ℕ → Option (List ℕ) → Ask
 asks_opened h bytes (Some packet) = Replay h.key (packet_id_of bytes)
 asks_opened h bytes None = GiveKey h.key
 
+-- With a hold, rx opens the datagram under the key's material.
 abbrev pub asks_open : HoldView → List ℕ → Option Material → Ask
 asks_open h bytes (Some m) = asks_opened h bytes (opened m.decrypt bytes)
 asks_open h bytes None = GiveKey h.key
 
+-- With a hold: tx draws a packet id, rx opens the datagram.
 abbrev pub asks_held : Option Material → HoldView → Deed → Ask
 asks_held m h (deed.Tx packet) = Draw h.key
 asks_held m h (deed.Rx from bytes) = asks_open h bytes m
@@ -148,10 +160,12 @@ abbrev pub asks_settle : (Addr → Addr) → HoldView → Deed → List ℕ → 
 asks_settle via h (deed.Rx from bytes) packet = Table (settle_act via h packet bytes)
 asks_settle via h _ packet = Over
 
+-- After an accepted packet id: the packet that the datagram opened to is settled.
 abbrev pub asks_judged : (Addr → Addr) → HoldView → Deed → Option Material → Ask
 asks_judged via h d (Some m) = asks_settle via h d (packet_in d m)
 asks_judged via h d None = Over
 
+-- What comes next, by where the line stands.
 abbrev pub asks : (Addr → Addr) → (ℕ → Option Material) → Deed → Stand → Ask
 asks via material d stand.Fresh = asks_first (begins via d)
 asks via material d stand.Replied = Over
@@ -163,6 +177,7 @@ asks via material d (stand.Used h u) = GiveKey h.key
 asks via material d (stand.KeyGiven h u) = GivePeer h.peer
 asks via material d (stand.PeerGiven h u) = Over
 
+-- The act that lets a peer or a key go.
 abbrev pub release_act : Owed → Act
 release_act (owed.Peer p) = act.Released p
 release_act (owed.Key k) = act.KeyReleased k
@@ -172,5 +187,6 @@ abbrev pub next_owing : (Addr → Addr) → (ℕ → Option Material) → Deed �
 next_owing via material d s [] = asks via material d s
 next_owing via material d s (o ∷ os) = Table (release_act o)
 
+-- What comes next for a line, by its events so far and what is owed.
 abbrev pub next : (Addr → Addr) → (ℕ → Option Material) → Line → List Event → List Owed → Ask
 next via material line es os = next_owing via material line.deed (stand_of es) os

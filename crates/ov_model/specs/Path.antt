@@ -145,7 +145,7 @@ abbrev pub spent_reply : Bool → Reply
 spent_reply true = reply.Killed
 spent_reply false = reply.AlreadyGone
 
--- The step of the table after a packet was sealed.
+-- The step of a sealed packet: it is counted with its own length and the datagram's.
 abbrev pub sent_act : HoldView → List ℕ → Act
 sent_act h packet = act.Sent h.peer (length packet) (outer_length (length packet)) false
 
@@ -164,14 +164,14 @@ refused_as refusal.Old = verdict.Old
 refused_as refusal.Below = verdict.Below
 refused_as refusal.Again = verdict.Again
 
--- A packet id that isn't fresh is dropped with the refusal's own cause.
+-- The cause with which a packet is dropped whose id isn't fresh: the refusal's own.
 abbrev pub cause_of : Refusal → DropCause
 cause_of refusal.Zero = drop.Zero
 cause_of refusal.Old = drop.Old
 cause_of refusal.Below = drop.Below
 cause_of refusal.Again = drop.Again
 
--- The answer of a settled packet.
+-- The answer of a settled packet: what the table said becomes of it.
 abbrev pub settled_answer : Settled → HoldView → List ℕ → Answer
 settled_answer settled.Deliver h packet = answer.Delivered h.id packet
 settled_answer settled.Ping h packet = answer.Keepalive h.id

@@ -43,22 +43,26 @@ abbrev pub removed_in : List Entry → List ℕ
 removed_in [] = []
 removed_in (e ∷ es) = removed e.reply ++ removed_in es
 
--- The key that an entry killed: the one that its Spend names, where the reply is Killed.
+-- The key that an act says is spent.
 abbrev pub spent_by : Act → List ℕ
 spent_by (act.Spend peer key) = key ∷ []
 spent_by _ = []
 
+-- The key that an entry killed: the one that its act says is spent, where the reply is Killed.
 abbrev pub killed_by : Reply → Act → List ℕ
 killed_by reply.Killed a = spent_by a
 killed_by _ a = []
 
+-- An entry killed a key.
 abbrev pub Kills : Entry → ℕ → Type 0
 Kills e key = killed_by e.reply e.call.act ≡ key ∷ []
 
+-- Whether a note tells of a removed peer.
 abbrev pub is_peer_del : NoteBody → Bool
 is_peer_del (note.PeerDel id reason) = true
 is_peer_del _ = false
 
+-- Whether a note tells of a killed key.
 abbrev pub is_key_swap : NoteBody → Bool
 is_key_swap (note.KeySwap id key_id) = true
 is_key_swap _ = false
@@ -67,9 +71,11 @@ is_key_swap _ = false
 abbrev pub noted : (NoteBody → Bool) → List Note → ℕ → List NoteBody
 noted is_such notes n = filter is_such (map (λ x. x.body) (filter (λ x. x.entry == n) notes))
 
+-- The peer-del notes with an entry's number, in order.
 abbrev pub peer_dels : List Note → ℕ → List NoteBody
 peer_dels notes n = noted is_peer_del notes n
 
+-- The key-swap notes with an entry's number, in order.
 abbrev pub key_swaps : List Note → ℕ → List NoteBody
 key_swaps notes n = noted is_key_swap notes n
 
@@ -95,11 +101,12 @@ pub record AllReleased (journal : List Entry) : Type 0 where
   pub peers : (last_table journal).dying ≡ []
   pub keys : (last_table journal).retired ≡ []
 
--- The serials of the peers that a journal let go, in order.
+-- The peer that an act lets go.
 abbrev pub released_by : Act → List ℕ
 released_by (act.Released serial) = serial ∷ []
 released_by _ = []
 
+-- The serials of the peers that a journal let go, in order.
 abbrev pub released_in : List Entry → List ℕ
 released_in [] = []
 released_in (e ∷ es) = released_by e.call.act ++ released_in es
@@ -108,15 +115,17 @@ released_in (e ∷ es) = released_by e.call.act ++ released_in es
 abbrev pub times : ℕ → List ℕ → ℕ
 times serial serials = length (filter (λ s. s == serial) serials)
 
--- The keys that a journal let go, in order, and those that it took out of their slots.
+-- The key that an act lets go.
 abbrev pub key_released_by : Act → List ℕ
 key_released_by (act.KeyReleased serial) = serial ∷ []
 key_released_by _ = []
 
+-- The serials of the keys that a journal let go, in order.
 abbrev pub keys_released_in : List Entry → List ℕ
 keys_released_in [] = []
 keys_released_in (e ∷ es) = key_released_by e.call.act ++ keys_released_in es
 
+-- The serials of the keys that some steps took out of their slots, in order.
 abbrev pub keys_taken_in : List Step → List ℕ
 keys_taken_in [] = []
 keys_taken_in (s ∷ steps) = s.taken ++ keys_taken_in steps

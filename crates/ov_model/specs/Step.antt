@@ -31,7 +31,8 @@ use Rattle.ov_model.specs.declared.note.NoteBody.TheVariants as note
 use Rattle.ov_model.specs.Limits.{most_peers, most_keys, greatest_peer_id}
 use Rattle.ov_model.specs.Tables.{Peer, Key, Table, change_first, without_first, has_id, has_serial, by_id, by_serial, by_remote, by_vpn, shares_vpn, view_of, bare, serials_of, no_keys, in_slot, with_slot, key_if_any, keys_of, key_serials, by_key_id, by_key, without_key}
 
--- after: the table; taken: the serials of the keys that left their slot, in order; notes: in order.
+-- What a step makes: the table after it, its reply, the serials of the keys that left their slot, in
+-- order, and its notes, in order.
 pub record Outcome : Type 0 where
   pub after : Table
   pub reply : Reply
@@ -40,10 +41,11 @@ pub record Outcome : Type 0 where
 
 -- ---- outcomes
 
--- A reply: of the given table the moment alone changes, no key leaves its slot, and nothing is told.
+-- A reply that changes nothing but the moment.
 abbrev pub replied : Table → ℕ → Reply → Outcome
 replied t now r = record { after = record t { moment = now }; reply = r; taken = []; notes = [] }
 
+-- A command that is refused changes nothing but the moment.
 abbrev pub refused : Table → ℕ → Errno → Outcome
 refused t now e = replied t now (reply.Refused e)
 
@@ -63,9 +65,11 @@ where_found t now missing (Some x) next = next x
 
 -- ---- commands
 
+-- The counts of a new peer.
 abbrev pub no_counts : Counts
 no_counts = record { vpn_rx_bytes = 0; vpn_rx_packets = 0; vpn_tx_bytes = 0; vpn_tx_packets = 0; link_rx_bytes = 0; link_rx_packets = 0; link_tx_bytes = 0; link_tx_packets = 0 }
 
+-- The keepalive of a peer that was given none.
 abbrev pub no_keepalive : Keepalive
 no_keepalive = record { interval = 0; timeout = 0 }
 
@@ -87,13 +91,15 @@ peer_new_checks t a remote =
 abbrev pub peer_made : Table → ℕ → Attrs → Transport → Outcome
 peer_made t now a remote = replied (record t { live = t.live ++ peer_of t.made now a remote ∷ []; made = t.made + 1 }) now (reply.Made t.made)
 
+-- peer-new with a remote transport.
 abbrev pub peer_new_at : Table → ℕ → Attrs → Transport → Outcome
 peer_new_at t now a remote = unless t now (peer_new_checks t a remote) (peer_made t now a remote)
 
+-- peer-new: the peer joins the live ones, unless it is refused, and its serial is the reply.
 unfoldable pub peer_new : Table → ℕ → Attrs → Outcome
 peer_new t now a = where_found t now (reply.Refused Invalid) a.remote (peer_new_at t now a)
 
--- peer-get.
+-- peer-get: what the live peer with an id shows.
 unfoldable pub peer_get : Table → ℕ → PeerId → Outcome
 peer_get t now id = where_found t now (reply.Refused NoEntry) (by_id id t.live) (λ p. replied t now (reply.Peer (view_of p)))
 
@@ -108,7 +114,7 @@ removals t now reason gone left r = record {
   notes = map (λ p. note.PeerDel p.id reason) gone;
 }
 
--- peer-del, with the reason that its note gives.
+-- peer-del of the live peer with an id, with the reason that its note gives.
 unfoldable pub remove_peer : Table → ℕ → PeerId → Reason → Outcome
 remove_peer t now id reason = where_found t now (reply.Refused NoEntry) (by_id id t.live)
     (λ p. removals t now reason (p ∷ []) (without_first (has_id id) t.live) (reply.Removed (serials_of (p ∷ []))))
@@ -117,6 +123,7 @@ remove_peer t now id reason = where_found t now (reply.Refused NoEntry) (by_id i
 abbrev pub key_of_conf : ℕ → KeyConf → Key
 key_of_conf serial c = record { serial = serial; key_id = c.key_id; material = record { encrypt = c.encrypt; decrypt = c.decrypt } }
 
+-- A peer with a key in a slot.
 abbrev pub with_key : Slot → Key → Peer → Peer
 with_key slot k p = record p { slots = with_slot slot (Some k) p.slots }
 
@@ -130,9 +137,11 @@ key_made t now c p = record {
   notes = [];
 }
 
+-- The refusal of key-new, once its peer was found: at most 65,536 keys are made.
 abbrev pub key_new_checks : Table → List Check
 key_new_checks t = refuse NoSpace (nat_le most_keys t.keys_made) ∷ []
 
+-- key-new into a slot of the live peer with an id.
 unfoldable pub key_new : Table → ℕ → KeyConf → Outcome
 key_new t now c = where_found t now (reply.Refused NoEntry) (by_id c.peer t.live)
     (λ p. unless t now (key_new_checks t) (key_made t now c p))
@@ -143,6 +152,7 @@ key_new t now c = where_found t now (reply.Refused NoEntry) (by_id c.peer t.live
 abbrev pub hold_of : Peer → Key → HoldView
 hold_of p k = record { peer = p.serial; id = p.id; key = k.serial; key_id = k.key_id; to = p.remote }
 
+-- The reply of a look-up that found a peer, by the key that it found.
 abbrev pub key_found : Table → ℕ → Peer → Option Key → Outcome
 key_found t now p k = where_found t now reply.NoKey k (λ x. replied t now (reply.Hold (hold_of p x)))
 
@@ -152,15 +162,17 @@ unfoldable pub tx_look : Table → ℕ → Addr → Outcome
 tx_look t now a = where_found t now reply.NoPeer (by_vpn a t.live) (λ p. key_found t now p p.slots.primary)
 
 -- Whose a datagram is: the live peer with the id of its head or, where that is 16777215, with the
--- transport that it came from; and that peer's key with the key id.
+-- transport that it came from.
 abbrev pub rx_peer : PeerId → Transport → List Peer → Option Peer
 rx_peer id from peers = if id.number == greatest_peer_id then by_remote from peers else by_id id peers
 
+-- Whose a datagram is, and which of that peer's keys: the one with the head's key id.
 unfoldable pub rx_look : Table → ℕ → PeerId → KeyId → Transport → Outcome
 rx_look t now id key_id from = where_found t now reply.NoPeer (rx_peer id from t.live) (λ p. key_found t now p (by_key_id key_id p.slots))
 
 -- ---- what is done with a hold
 
+-- Whether a peer with this serial is in a list.
 abbrev pub is_there : ℕ → List Peer → Bool
 is_there serial peers = list_any (has_serial serial) peers
 
@@ -180,6 +192,7 @@ sent_counts inner outer ping c =
     if ping then record c { link_tx_bytes = up c.link_tx_bytes outer; link_tx_packets = up c.link_tx_packets 1 } else
     record c { link_tx_bytes = up c.link_tx_bytes outer; link_tx_packets = up c.link_tx_packets 1; vpn_tx_bytes = up c.vpn_tx_bytes inner; vpn_tx_packets = up c.vpn_tx_packets 1 }
 
+-- The peer after a datagram was sent to it.
 abbrev pub sent_peer : (now inner outer : ℕ) → Bool → Peer → Peer
 sent_peer now inner outer ping p = record p { last_sent = now; counts = sent_counts inner outer ping p.counts }
 
@@ -187,10 +200,11 @@ sent_peer now inner outer ping p = record p { last_sent = now; counts = sent_cou
 unfoldable pub sent : Table → (now peer inner outer : ℕ) → Bool → Outcome
 sent t now peer inner outer ping = replied (change_peer peer (sent_peer now inner outer ping) (sent_peer now inner outer ping) t) now reply.Done
 
--- A datagram was received: the link counts it. A packet that is delivered counts inside the tunnel too.
+-- The peer after a datagram was received from it: the link counts it.
 abbrev pub received_peer : (now outer : ℕ) → Peer → Peer
 received_peer now outer p = record p { last_received = now; counts = record p.counts { link_rx_bytes = up p.counts.link_rx_bytes outer; link_rx_packets = up p.counts.link_rx_packets 1 } }
 
+-- A packet that is delivered counts inside the tunnel too.
 abbrev pub settled_peer : Settled → ℕ → Peer → Peer
 settled_peer settled.Deliver inner p = record p { counts = record p.counts { vpn_rx_bytes = up p.counts.vpn_rx_bytes inner; vpn_rx_packets = up p.counts.vpn_rx_packets 1 } }
 settled_peer _ inner p = p
@@ -200,12 +214,13 @@ abbrev pub floated : List Peer → Option Transport → Peer → Peer
 floated live None p = p
 floated live (Some from) p = if is_some (by_remote from live) then p else record p { remote = from }
 
--- A packet is delivered exactly where the live peer with the VPN address that is the next hop of its
--- source is this very peer.
+-- Whether a peer was found and has this serial.
 abbrev pub is_serial : ℕ → Option Peer → Bool
 is_serial serial None = false
 is_serial serial (Some p) = p.serial == serial
 
+-- What becomes of a packet: it is delivered exactly where the live peer with the VPN address that is the
+-- next hop of its source is the peer that was held.
 abbrev pub settled_as : ℕ → InnerKind → List Peer → Settled
 settled_as peer (kind.From a) live = if is_serial peer (by_vpn a live) then settled.Deliver else settled.NotOwner
 settled_as peer kind.Ping live = settled.Ping
@@ -220,8 +235,7 @@ settle t now peer from k inner outer =
     (λ p. settled_peer s inner (floated t.live from (received_peer now outer p)))
     (λ p. settled_peer s inner (received_peer now outer p)) t) now (reply.Settled s)
 
--- A key that gave its last packet id is taken out of its slot, where it stands in one of a live peer, and
--- one key-swap note tells so.
+-- A key that gave its last packet id is taken out of its slot, and one key-swap note tells so.
 abbrev pub spent_key : Table → (now peer key : ℕ) → Peer → Key → Outcome
 spent_key t now peer key p k = record {
   after = record t { live = change_first (has_serial peer) (λ q. record q { slots = without_key key q.slots }) t.live; retired = t.retired ++ k ∷ []; moment = now };
@@ -230,6 +244,7 @@ spent_key t now peer key p k = record {
   notes = note.KeySwap p.id k.key_id ∷ [];
 }
 
+-- A key gave its last packet id: it is taken out of its slot, where it stands in one of a live peer.
 unfoldable pub spend : Table → (now peer key : ℕ) → Outcome
 spend t now peer key = where_found t now reply.AlreadyGone (by_serial peer t.live)
     (λ p. where_found t now reply.AlreadyGone (by_key key p.slots) (spent_key t now peer key p))
@@ -240,22 +255,24 @@ spend t now peer key = where_found t now reply.AlreadyGone (by_serial peer t.liv
 unfoldable pub released : Table → ℕ → ℕ → Outcome
 released t now serial = replied (record t { dying = without_first (has_serial serial) t.dying }) now (reply.Released serial)
 
--- A retired key is let go.
+-- Whether a key has this serial.
 abbrev pub has_key_serial : ℕ → Key → Bool
 has_key_serial serial k = k.serial == serial
 
+-- A retired key is let go.
 unfoldable pub key_released : Table → ℕ → ℕ → Outcome
 key_released t now serial = replied (record t { retired = without_first (has_key_serial serial) t.retired }) now (reply.KeyReleased serial)
 
 -- ---- every step
 
--- The step of a command, of an act, of a call. A table's moment is the greatest that it has seen.
+-- The step of a command.
 abbrev pub command_step : Table → ℕ → Command → Outcome
 command_step t now (command.PeerNew a) = peer_new t now a
 command_step t now (command.PeerGet id) = peer_get t now id
 command_step t now (command.Remove id reason) = remove_peer t now id reason
 command_step t now (command.KeyNew c) = key_new t now c
 
+-- The step of an act at a moment.
 abbrev pub act_step : Table → ℕ → Act → Outcome
 act_step t now (act.Do c) = command_step t now c
 act_step t now (act.TxLook a) = tx_look t now a
@@ -266,12 +283,15 @@ act_step t now (act.Spend peer key) = spend t now peer key
 act_step t now (act.Released serial) = released t now serial
 act_step t now (act.KeyReleased serial) = key_released t now serial
 
+-- The step of a call. A table's moment is the greatest that it has seen.
 abbrev pub step : Table → Call → Outcome
 step t c = act_step t (max t.moment c.at) c.act
 
+-- Whether a key with this serial is in a list.
 abbrev pub is_retired : ℕ → List Key → Bool
 is_retired serial keys = list_any (has_key_serial serial) keys
 
+-- Whether a peer has the key with this serial in a slot.
 abbrev pub has_key : ℕ → Peer → Bool
 has_key key p = is_some (by_key key p.slots)
 
@@ -287,5 +307,6 @@ may_act t (act.Spend peer key) = (is_there peer t.live || is_there peer t.dying)
 may_act t (act.Released serial) = is_there serial t.dying
 may_act t (act.KeyReleased serial) = is_retired serial t.retired
 
+-- A call is allowed at a table: what its act needs is there.
 abbrev pub May : Table → Call → Type 0
 May t c = may_act t c.act ≡ true

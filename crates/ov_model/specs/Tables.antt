@@ -46,9 +46,10 @@ pub record Peer : Type 0 where
   pub last_sent : ℕ
   pub slots : Slots
 
--- live: the peers that packets and commands reach; dying: the removed ones that aren't let go yet;
--- retired: the keys that were taken out of their slots and aren't let go yet; made, keys_made: how many
--- were ever made; moment: the greatest moment that the table has seen, in seconds.
+-- The table of peers: `live` are those that packets and commands reach, `dying` the removed ones that
+-- aren't let go yet, `retired` the keys that were taken out of their slots and aren't let go yet; `made`
+-- and `keys_made` are how many were ever made; `moment` is the greatest moment that the table has seen, in
+-- seconds.
 pub record Table : Type 0 where
   pub live : List Peer
   pub dying : List Peer
@@ -57,42 +58,48 @@ pub record Table : Type 0 where
   pub keys_made : ℕ
   pub moment : ℕ
 
+-- The table that every history begins with.
 abbrev pub empty_table : Table
 empty_table = record { live = []; dying = []; retired = []; made = 0; keys_made = 0; moment = 0 }
 
 -- ---- members of a list
 
--- The first member that fits is changed, or taken out. A list in which none fits stays.
+-- A list in which the first member that fits is changed; one in which none fits stays.
 abbrev pub change_first : {X : Type 0} → (X → Bool) → (X → X) → List X → List X
 change_first fits change [] = []
 change_first fits change (x ∷ xs) = if fits x then change x ∷ xs else x ∷ change_first fits change xs
 
+-- A list without the first member that fits; one in which none fits stays.
 abbrev pub without_first : {X : Type 0} → (X → Bool) → List X → List X
 without_first fits [] = []
 without_first fits (x ∷ xs) = if fits x then xs else x ∷ without_first fits xs
 
 -- ---- keys and slots
 
+-- The slots of a new peer.
 abbrev pub no_keys : Slots
 no_keys = record { primary = None; secondary = None }
 
--- What stands in a slot, and the slots with something else in one.
+-- What stands in a slot.
 abbrev pub in_slot : Slot → Slots → Option Key
 in_slot Primary s = s.primary
 in_slot Secondary s = s.secondary
 
+-- The slots with something else in one.
 abbrev pub with_slot : Slot → Option Key → Slots → Slots
 with_slot Primary k s = record s { primary = k }
 with_slot Secondary k s = record s { secondary = k }
 
--- The keys of the slots, the primary's first.
+-- The key of a slot as a list.
 abbrev pub key_if_any : Option Key → List Key
 key_if_any None = []
 key_if_any (Some k) = k ∷ []
 
+-- The keys of the slots, the primary's first.
 abbrev pub keys_in : Slots → List Key
 keys_in s = key_if_any s.primary ++ key_if_any s.secondary
 
+-- The serials of some keys.
 abbrev pub key_serials : List Key → List ℕ
 key_serials keys = map (λ k. k.serial) keys
 
@@ -100,14 +107,16 @@ key_serials keys = map (λ k. k.serial) keys
 abbrev pub by_key_id : KeyId → Slots → Option Key
 by_key_id id s = find (λ k. k.key_id.number == id.number) (keys_in s)
 
--- The key with a serial, and the slots without it.
+-- The key with a serial.
 abbrev pub by_key : ℕ → Slots → Option Key
 by_key key s = find (λ k. k.serial == key) (keys_in s)
 
+-- Whether a slot has the key with a serial.
 abbrev pub is_key : ℕ → Option Key → Bool
 is_key key None = false
 is_key key (Some k) = k.serial == key
 
+-- The slots without the key with a serial.
 abbrev pub without_key : ℕ → Slots → Slots
 without_key key s =
     if is_key key s.primary then record s { primary = None } else
@@ -128,10 +137,11 @@ bare p = record p { slots = no_keys }
 abbrev pub serials_of : List Peer → List ℕ
 serials_of peers = map (λ p. p.serial) peers
 
--- Whether a peer has an id, or a serial.
+-- Whether a peer has this id.
 abbrev pub has_id : PeerId → Peer → Bool
 has_id id p = p.id.number == id.number
 
+-- Whether a peer has this serial.
 abbrev pub has_serial : ℕ → Peer → Bool
 has_serial serial p = p.serial == serial
 
@@ -139,6 +149,7 @@ has_serial serial p = p.serial == serial
 abbrev pub by_id : PeerId → List Peer → Option Peer
 by_id id peers = find (has_id id) peers
 
+-- The peer with a serial.
 abbrev pub by_serial : ℕ → List Peer → Option Peer
 by_serial serial peers = find (has_serial serial) peers
 
@@ -151,11 +162,12 @@ abbrev pub same_vpn : Option (List ℕ) → Option (List ℕ) → Bool
 same_vpn (Some a) (Some b) = bytes_eq a b
 same_vpn _ _ = false
 
--- The peer with a VPN address: the first that has it.
+-- Whether a peer has a VPN address.
 abbrev pub has_vpn : Addr → Peer → Bool
 has_vpn (V4 a) p = same_vpn p.vpn4 (Some a)
 has_vpn (V6 a) p = same_vpn p.vpn6 (Some a)
 
+-- The peer with a VPN address: the first that has it.
 abbrev pub by_vpn : Addr → List Peer → Option Peer
 by_vpn a peers = find (has_vpn a) peers
 

@@ -1,6 +1,12 @@
+-- How a line begins: by its head, and never with what was sealed.
 pub mod Beginning
+-- A line that is over: its events and its answer have a path.
 pub mod Ending
+-- A line that runs goes on: each event leads from one stage to the next.
 pub mod Going
+-- A tag that verifies opens its datagram.
 pub mod Opening
+-- What each call makes of the plain desk of the tests.
 pub mod Plain
+-- The event that a turn makes is the one that comes next, and it is the line's own.
 pub mod Making

@@ -58,10 +58,12 @@ pub record SameLine (old new : View) : Type 0 where
 
 -- ---- conditions
 
+-- The key is held.
 abbrev pub HoldsKey : Holding → ℕ → Type 0
 HoldsKey (Both h) key = h.key ≡ key
 HoldsKey _ key = ⊥
 
+-- The peer is held.
 abbrev pub HoldsPeer : Holding → ℕ → Type 0
 HoldsPeer (Both h) peer = h.peer ≡ peer
 HoldsPeer _ peer = ⊥
@@ -73,19 +75,22 @@ LeftPeer _ peer = ⊥
 
 -- A line asks a counter or a replay window right after its look-up, says that it sent or that the key is
 -- spent right after its draw, and settles right after the window accepted. A desk may rely on that: a hold
--- draws once, is judged once and is used once.
+-- draws once, is judged once and is used once. Here the line has looked up.
 abbrev pub IsLooked : Stand → Type 0
 IsLooked (stand.Looked h) = ⊤
 IsLooked _ = ⊥
 
+-- The line has drawn a packet id.
 abbrev pub IsDrawn : Stand → Type 0
 IsDrawn (stand.Drew h (drawn.Id n)) = ⊤
 IsDrawn _ = ⊥
 
+-- The line's packet id was accepted.
 abbrev pub IsJudged : Stand → Type 0
 IsJudged (stand.Judged h) = ⊤
 IsJudged _ = ⊥
 
+-- The line has drawn, and found none left.
 abbrev pub IsSpent : Stand → Type 0
 IsSpent (stand.Drew h drawn.Spent) = ⊤
 IsSpent _ = ⊥
@@ -97,6 +102,7 @@ IsUnused (stand.Drew h d) = ⊤
 IsUnused (stand.Judged h) = ⊤
 IsUnused _ = ⊥
 
+-- The line holds and owes nothing, and has made no event yet.
 abbrev pub IsFree : View → Type 0
 IsFree w = (w.hold ≡ NoHold) × (w.owing ≡ []) × (stand_of w.events ≡ stand.Fresh)
 
@@ -118,6 +124,7 @@ abbrev pub first_owed : List Owed → Option Owed
 first_owed [] = None
 first_owed (o ∷ os) = Some o
 
+-- What is owed after the first release.
 abbrev pub after_first : List Owed → List Owed
 after_first [] = []
 after_first (o ∷ os) = os
@@ -143,6 +150,7 @@ abbrev pub look_holds : Holding → Reply → Holding
 look_holds before (reply.Hold h) = Both h
 look_holds before _ = before
 
+-- What is held after a step of the table: what its look-up found.
 abbrev pub held_after : Holding → Act → Reply → Holding
 held_after before (act.TxLook a) r = look_holds before r
 held_after before (act.RxLook id key_id from) r = look_holds before r
@@ -155,15 +163,18 @@ IsLookReply reply.NoPeer = ⊤
 IsLookReply reply.NoKey = ⊤
 IsLookReply _ = ⊥
 
+-- A reply says what becomes of a packet.
 abbrev pub IsSettledReply : Reply → Type 0
 IsSettledReply (reply.Settled s) = ⊤
 IsSettledReply _ = ⊥
 
+-- A reply says what became of a spent key.
 abbrev pub IsSpendReply : Reply → Type 0
 IsSpendReply reply.Killed = ⊤
 IsSpendReply reply.AlreadyGone = ⊤
 IsSpendReply _ = ⊥
 
+-- A reply is of the kind that the act has.
 abbrev pub IsReplyOf : Act → Reply → Type 0
 IsReplyOf (act.Do c) r = ⊤
 IsReplyOf (act.TxLook a) r = IsLookReply r
@@ -187,11 +198,13 @@ abbrev pub HoldHas : (ℕ → Option Material) → Reply → Type 0
 HoldHas material (reply.Hold h) = (m : Material) × (material h.key ≡ Some m)
 HoldHas material _ = ⊤
 
+-- The key that a look-up holds has its material.
 abbrev pub HasMaterial : (ℕ → Option Material) → Act → Reply → Type 0
 HasMaterial material (act.TxLook a) r = HoldHas material r
 HasMaterial material (act.RxLook id key_id from) r = HoldHas material r
 HasMaterial material _ r = ⊤
 
+-- The event of a step of the table.
 abbrev pub stepped_as : Place → Call → Reply → List ℕ → Event
 stepped_as place call r taken = Stepped (record { entry = record { place = place; call = call; reply = r }; taken = taken })
 
@@ -214,6 +227,8 @@ hold_left h (GaveKey key g) = peer_left h
 hold_left h (GavePeer peer g) = NoHold
 hold_left h _ = h
 
+-- What is owed after an event: more after a give-back that was the last, and less by the first after a
+-- release.
 abbrev pub owed_left : List Owed → Event → List Owed
 owed_left os (GaveKey key g) = os ++ owed_if g (owed.Key key)
 owed_left os (GavePeer peer g) = os ++ owed_if g (owed.Peer peer)

@@ -37,10 +37,12 @@ listed (Some o) = o ∷ []
 abbrev pub one_key : Material → ℕ → Option Material
 one_key m key = Some m
 
+-- The next hop that the plain desk gives, or else the address itself.
 abbrev pub hop_or : Option Addr → Addr → Addr
 hop_or None a = a
 hop_or (Some hop) a = hop
 
+-- What the plain desk shows.
 abbrev pub shown_of : Kept → View
 shown_of k = record { events = k.events; hold = k.hold; owing = listed k.owing; material = one_key k.pair; via = hop_or k.hop }
 
@@ -69,10 +71,12 @@ need (PeerLeft h) drew = 3
 need (Both h) true = 6
 need (Both h) false = 7
 
+-- The room that a release that is owed may still take.
 abbrev pub owes : Option Owed → ℕ
 owes None = 0
 owes (Some o) = 2
 
+-- What the plain desk keeps true.
 pub record Sound (k : Kept) : Type 0 where
   pub spare : need k.hold k.drew + owes k.owing ≤ k.room
   pub drawn : k.drew ≡ true → ¬ IsLooked (stand_of k.events)

@@ -47,6 +47,7 @@ use Rattle.ov_path.specs.declared.walk.Walk.{Walk}
 abbrev pub released : Place → ℕ → List Owed → List Event
 released place at os = map Stepped (releases place at os)
 
+-- The event of a replay step.
 abbrev pub judged_as : Place → ℕ → HoldView → List ℕ → Verdict → Event
 judged_as place at h bytes v = Judged (replay_of place at h bytes v)
 
@@ -56,11 +57,13 @@ tx_events place at h packet (used.Sealed n) = Drew h.key (drawn.Id n) ∷ Steppe
 tx_events place at h packet (used.Spent killed) = Drew h.key drawn.Spent ∷ Stepped (step_of place at (act.Spend h.peer h.key) (spent_reply killed) (spent_taken killed h.key)) ∷ []
 tx_events place at h packet _ = []
 
+-- The events of a use of a received datagram.
 abbrev pub rx_events : (Addr → Addr) → Place → ℕ → HoldView → (packet bytes : List ℕ) → Use → List Event
 rx_events via place at h packet bytes (used.Refused x) = judged_as place at h bytes (refused_as x) ∷ []
 rx_events via place at h packet bytes (used.Settled s) = judged_as place at h bytes verdict.Accept ∷ Stepped (step_of place at (settle_act via h packet bytes) (reply.Settled s) []) ∷ []
 rx_events via place at h packet bytes _ = []
 
+-- The events of a use.
 abbrev pub use_events : (Addr → Addr) → Place → ℕ → Deed → HoldView → Material → Use → List Event
 use_events via place at (deed.Tx packet) h m u = tx_events place at h packet u
 use_events via place at (deed.Rx from bytes) h m u = rx_events via place at h (packet_in (deed.Rx from bytes) m) bytes u
@@ -80,6 +83,7 @@ module _ (via : Addr → Addr) (place : Place) (line : Line) (w : View) where
     pub has : w.material h.key ≡ Some m
     pub events : w.events ≡ Stepped (step_of place line.at look (reply.Hold h) []) ∷ later
 
+  -- Nothing was made yet.
   pub record AtFresh : Type 0 where
     pub none : w.events ≡ []
     pub owes : w.owing ≡ []
@@ -97,12 +101,14 @@ module _ (via : Addr → Addr) (place : Place) (line : Line) (w : View) where
     pub owes : done ++ w.owing ≡ all
     pub answer : a ≡ answer.Reply r
 
+  -- The look-up was made, and holds.
   pub record AtLooked (h : HoldView) (p : Purpose) : Type 0 where
     pub m : Material
     pub fits : PurposeFits line.deed p
     pub held : Held h m []
     pub owes : w.owing ≡ []
 
+  -- The look-up and the draw were made.
   pub record AtDrew (h : HoldView) (d : Drawn) : Type 0 where
     pub m : Material
     pub fits : PurposeFits line.deed purpose.Seal
@@ -118,6 +124,7 @@ module _ (via : Addr → Addr) (place : Place) (line : Line) (w : View) where
     pub opens : Opens place line.at h line.deed m later packet
     pub owes : w.owing ≡ []
 
+  -- What is held was used.
   pub record AtUsed (h : HoldView) (u : Use) (a : Answer) : Type 0 where
     pub m : Material
     pub fits : UseFits line.deed m u
@@ -125,6 +132,7 @@ module _ (via : Addr → Addr) (place : Place) (line : Line) (w : View) where
     pub owes : w.owing ≡ []
     pub answer : a ≡ (use_row via place line.at line.deed h m u).answer
 
+  -- The key was given back.
   pub record AtKeyGiven (h : HoldView) (u : Use) (a : Answer) : Type 0 where
     pub m : Material
     pub key : Given
@@ -134,6 +142,7 @@ module _ (via : Addr → Addr) (place : Place) (line : Line) (w : View) where
     pub owes : done ++ w.owing ≡ owed_if key (owed.Key h.key)
     pub answer : a ≡ (use_row via place line.at line.deed h m u).answer
 
+  -- The peer was given back too.
   pub record AtPeerGiven (h : HoldView) (u : Use) (a : Answer) : Type 0 where
     pub m : Material
     pub key : Given
@@ -144,6 +153,7 @@ module _ (via : Addr → Addr) (place : Place) (line : Line) (w : View) where
     pub owes : done ++ w.owing ≡ owed_if peer (owed.Peer h.peer)
     pub answer : a ≡ (use_row via place line.at line.deed h m u).answer
 
+  -- The events that a line has made, by where it stands.
   abbrev pub Trail : Stage → Type 0
   Trail stage.Fresh = AtFresh
   Trail (stage.Replied a) = AtReplied a
@@ -210,6 +220,7 @@ Progressed via place line w s (Answered a) = Over via place line w a
 abbrev pub Stands : (Addr → Addr) → Line → View → Walk → Type 0
 Stands via line w walk = Walking via walk.place line w walk.stage
 
+-- The walk goes on, or its line is over, as the turn answers.
 abbrev pub Turned : (Addr → Addr) → Line → View → Walk → Progress → Type 0
 Turned via line w walk r = Progressed via walk.place line w walk.stage r
 

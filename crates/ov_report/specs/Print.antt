@@ -37,16 +37,19 @@ use Rattle.ov_model.specs.declared.note.Note.{Note}
 use Rattle.ov_model.specs.declared.note.NoteBody.{NoteBody}
 use Rattle.ov_model.specs.declared.note.NoteBody.TheVariants as body
 
--- A whole number, a text, a list of numbers.
+-- A whole number.
 abbrev pub num : ℕ → Data
 num n = number (unsigned n)
 
+-- A whole number under a name.
 abbrev pub put_num : List ℕ → ℕ → Members → Members
 put_num name n ms = put name (num n) ms
 
+-- A text under a name.
 abbrev pub put_text : List ℕ → List ℕ → Members → Members
 put_text name s ms = put name (string s) ms
 
+-- A list of whole numbers.
 abbrev pub nums : List ℕ → Data
 nums ns = array (items_of (map num ns))
 
@@ -80,6 +83,7 @@ errno_number Invalid = 22
 errno_number NoSpace = 28
 errno_number NotSupported = 95
 
+-- The reasons of a removal, as the netlink family names them (`del-peer-reason`).
 abbrev pub reason_name : Reason → List ℕ
 reason_name reason.Teardown = codes "teardown"
 reason_name reason.Userspace = codes "userspace"
@@ -87,22 +91,26 @@ reason_name reason.Expired = codes "expired"
 reason_name reason.TransportError = codes "transport-error"
 reason_name reason.TransportDisconnect = codes "transport-disconnect"
 
--- A remote transport: IPv4 in dotted decimal, IPv6 as 32 hexadecimal digits.
+-- A remote address: IPv4 in dotted decimal, IPv6 as 32 hexadecimal digits.
 abbrev pub put_remote_addr : Addr → Members → Members
 put_remote_addr (V4 a) ms = put_text (codes "remote-ipv4") (ipv4_text a) ms
 put_remote_addr (V6 a) ms = put_text (codes "remote-ipv6") (encode_lower a) ms
 
+-- A remote transport: its address and its port.
 abbrev pub put_remote : Transport → Members → Members
 put_remote t ms = put_num (codes "remote-port") t.port (put_remote_addr t.addr ms)
 
+-- The IPv4 address inside the tunnel, where there is one.
 abbrev pub put_vpn4 : Option (List ℕ) → Members → Members
 put_vpn4 None ms = ms
 put_vpn4 (Some a) ms = put_text (codes "vpn-ipv4") (ipv4_text a) ms
 
+-- The IPv6 address inside the tunnel, where there is one.
 abbrev pub put_vpn6 : Option (List ℕ) → Members → Members
 put_vpn6 None ms = ms
 put_vpn6 (Some a) ms = put_text (codes "vpn-ipv6") (encode_lower a) ms
 
+-- The counts of a peer, of the link and inside the tunnel.
 unfoldable pub put_counts : Counts → Members → Members
 put_counts c ms =
     put_num (codes "vpn-tx-packets") c.vpn_tx_packets
@@ -136,6 +144,7 @@ settled_name settled.Ping = codes "ping"
 settled_name settled.NotIp = codes "not-ip"
 settled_name settled.NotOwner = codes "not-owner"
 
+-- What a step replied.
 abbrev pub reply_data : Reply → Data
 reply_data (reply.Made n) = one (codes "serial") (num n)
 reply_data reply.Done = one (codes "ok") (boolean true)
@@ -151,17 +160,20 @@ reply_data (reply.Released n) = one (codes "released") (num n)
 reply_data (reply.KeyReleased n) = one (codes "key-released") (num n)
 reply_data (reply.Refused e) = one (codes "error") (num (errno_number e))
 
+-- The text of a reply.
 unfoldable pub reply_text : Reply → List ℕ
 reply_text r = compact_text (reply_data r)
 
--- A transport, and bytes as hexadecimal digits in lower case.
+-- The text of an address: IPv4 in dotted decimal, IPv6 as 32 hexadecimal digits.
 abbrev pub addr_text : Addr → List ℕ
 addr_text (V4 a) = ipv4_text a
 addr_text (V6 a) = encode_lower a
 
+-- A transport: its address and its port.
 abbrev pub transport_members : Transport → Members
 transport_members t = put_num (codes "port") t.port (put_text (codes "addr") (addr_text t.addr) no_members)
 
+-- Bytes under a name, as hexadecimal digits in lower case.
 abbrev pub put_bytes : List ℕ → List ℕ → Members → Members
 put_bytes name bytes ms = put_text name (encode_lower bytes) ms
 
@@ -177,6 +189,7 @@ sealed_members s =
 abbrev pub delivered_members : PeerId → List ℕ → Members
 delivered_members peer packet = put_num (codes "peer") peer.number (put_bytes (codes "packet") packet no_members)
 
+-- The causes with which a packet is dropped.
 abbrev pub cause_name : DropCause → List ℕ
 cause_name cause.Short = codes "short"
 cause_name cause.DataV1 = codes "data-v1"
@@ -191,6 +204,7 @@ cause_name cause.NotIp = codes "not-ip"
 cause_name cause.NotOwner = codes "not-owner"
 cause_name cause.Spent = codes "spent"
 
+-- The answer to a line.
 abbrev pub answer_data : Answer → Data
 answer_data (answer.Reply r) = reply_data r
 answer_data (answer.Sealed s) = one (codes "sealed") (object (sealed_members s))
@@ -199,6 +213,7 @@ answer_data (answer.Keepalive id) = one (codes "keepalive") (num id.number)
 answer_data answer.Control = one (codes "passed") (string (codes "control"))
 answer_data (answer.Dropped c) = one (codes "dropped") (string (cause_name c))
 
+-- The text of an answer.
 unfoldable pub given_text : Answer → List ℕ
 given_text a = compact_text (answer_data a)
 
@@ -212,20 +227,22 @@ entry_data n e = object
     (put_text (codes "call") (call_name e.call.act)
     (put_num (codes "at") e.call.at no_members))))))
 
+-- The line of an entry.
 abbrev pub entry_text : ℕ → Entry → List ℕ
 entry_text n e = line_text (entry_data n e)
 
--- The answer of a lane's line.
+-- The answer of a lane's line, with lane and line.
 unfoldable pub answered_data : ℕ → ℕ → Answer → Data
 answered_data lane line a = object
     (put_num (codes "line") line
     (put_num (codes "lane") lane
     (put (codes "answer") (answer_data a) no_members)))
 
+-- The line of an answer.
 abbrev pub answer_text : ℕ → ℕ → Answer → List ℕ
 answer_text lane line a = line_text (answered_data lane line a)
 
--- A notification, with the number of the entry that made it.
+-- What a note tells.
 abbrev pub note_members : NoteBody → Members
 note_members (body.PeerDel id r) =
     put (codes "peer") (object (put_num (codes "id") id.number (put_text (codes "del-reason") (reason_name r) no_members)))
@@ -234,13 +251,15 @@ note_members (body.KeySwap id key_id) =
     put (codes "keyconf") (object (put_num (codes "peer-id") id.number (put_num (codes "key-id") key_id.number no_members)))
     (put_text (codes "notify") (codes "key-swap-ntf") no_members)
 
+-- A notification, with the number of the entry that made it.
 unfoldable pub note_data : Note → Data
 note_data n = object (put_num (codes "journal") n.entry (note_members n.body))
 
+-- The line of a note.
 abbrev pub note_text : Note → List ℕ
 note_text n = line_text (note_data n)
 
--- A replay step of a shard.
+-- The verdicts of the replay rule.
 abbrev pub verdict_name : Verdict → List ℕ
 verdict_name verdict.Accept = codes "accept"
 verdict_name verdict.Zero = codes "zero"
@@ -248,6 +267,7 @@ verdict_name verdict.Old = codes "old"
 verdict_name verdict.Below = codes "below"
 verdict_name verdict.Again = codes "again"
 
+-- A replay step of a shard.
 unfoldable pub replay_data : ℕ → ReplayEntry → Data
 replay_data shard r = object
     (put_text (codes "verdict") (verdict_name r.verdict)
@@ -259,5 +279,6 @@ replay_data shard r = object
     (put_num (codes "id") r.id
     (put_num (codes "at") r.at no_members))))))))
 
+-- The line of a replay step.
 abbrev pub replay_text : ℕ → ReplayEntry → List ℕ
 replay_text shard r = line_text (replay_data shard r)

@@ -10,12 +10,15 @@ use Rattle.ov_model.specs.declared.command.KeyDir.{KeyDir}
 use Rattle.ov_model.specs.declared.entry.Entry.{Entry}
 use Rattle.ov_model.specs.Keys.{conf_made}
 
+-- What a direction seals with, as a pair.
 abbrev pub pair_of : KeyDir → List ℕ × List ℕ
 pair_of d = (key_list d.key, d.tail)
 
+-- A pair as it is lent.
 abbrev pub pair_read : Bor (List ℕ) × Bor (List ℕ) → List ℕ × List ℕ
 pair_read p = (p.0.now, p.1.now)
 
+-- Whether two pairs have the same bytes.
 abbrev pub same_pair : List ℕ × List ℕ → List ℕ × List ℕ → Bool
 same_pair p q = bytes_eq p.0 q.0 && bytes_eq p.1 q.1
 
@@ -28,5 +31,6 @@ abbrev pub dirs_of : Option (Bor KeyDir) → List KeyDir
 dirs_of None = []
 dirs_of (Some d) = d.now ∷ []
 
+-- The direction that an entry's new key seals with, as a list of none or one.
 abbrev pub sealing_by : Entry → List KeyDir
 sealing_by e = map (λ c. c.encrypt) (conf_made e.call.act e.reply)

@@ -23,62 +23,72 @@ use Rattle.ov_model.specs.declared.report.Report.{Report}
 use Rattle.ov_model.specs.Keys.{sealing_in, same_dir}
 use Rattle.ov_report.specs.Print.{put_num, one, line_text, entry_text, replay_text, answer_text, note_text}
 
--- Whether an entry made a peer, made a key, or let a peer go.
+-- Whether an entry made a peer.
 abbrev pub makes_peer : Act → Reply → Bool
 makes_peer (act.Do (command.PeerNew a)) (reply.Made n) = true
 makes_peer _ _ = false
 
+-- Whether an entry made a key.
 abbrev pub makes_key : Act → Reply → Bool
 makes_key (act.Do (command.KeyNew c)) (reply.Made n) = true
 makes_key _ _ = false
 
+-- Whether an act let a peer go.
 abbrev pub lets_peer_go : Act → Bool
 lets_peer_go (act.Released n) = true
 lets_peer_go _ = false
 
--- Whether an answer is a sealed datagram, a delivered packet, or a datagram whose tag is wrong.
+-- Whether an answer is a sealed datagram.
 abbrev pub is_sealed : Answer → Bool
 is_sealed (answer.Sealed s) = true
 is_sealed _ = false
 
+-- Whether an answer is a delivered packet.
 abbrev pub is_delivered : Answer → Bool
 is_delivered (answer.Delivered peer packet) = true
 is_delivered _ = false
 
+-- Whether a cause is that the tag is wrong.
 abbrev pub is_wrong_tag : DropCause → Bool
 is_wrong_tag BadTag = true
 is_wrong_tag _ = false
 
+-- Whether an answer is a datagram whose tag is wrong.
 abbrev pub is_bad_tag : Answer → Bool
 is_bad_tag (answer.Dropped c) = is_wrong_tag c
 is_bad_tag _ = false
 
+-- Whether a verdict accepts.
 abbrev pub is_accept : Verdict → Bool
 is_accept verdict.Accept = true
 is_accept _ = false
 
+-- Whether a verdict refuses.
 abbrev pub is_refused : Verdict → Bool
 is_refused v = not (is_accept v)
 
--- How many steps of all shards pass a test; how many answers all lanes have, and how many of them pass
--- a test.
+-- How many steps of all shards have a verdict that passes a test.
 abbrev pub judged : (Verdict → Bool) → List (List ReplayEntry) → ℕ
 judged test shards = sum_by (λ shard. count_by (λ r. test r.verdict) shard) shards
 
+-- How many answers all lanes have.
 abbrev pub answers : List LaneLog → ℕ
 answers lanes = sum_by (λ log. length log.answers) lanes
 
+-- How many answers of all lanes pass a test.
 abbrev pub answered : (Answer → Bool) → List LaneLog → ℕ
 answered test lanes = sum_by (λ log. count_by test log.answers) lanes
 
--- Whether no two keys of a journal have the same sealing key and nonce tail.
+-- Whether no two directions of a list have the same key bytes and nonce tail.
 abbrev pub all_differ : List KeyDir → Bool
 all_differ [] = true
 all_differ (d ∷ ds) = not (list_any (same_dir d) ds) && all_differ ds
 
+-- Whether no two keys of a journal have the same sealing key and nonce tail.
 unfoldable pub keys_differ : List Entry → Bool
 keys_differ journal = all_differ (sealing_in journal)
 
+-- The counts of the summary, by their names.
 unfoldable pub summary_data : Report → Data
 summary_data r = one (codes "summary") (object
     (put_num (codes "sealed") (answered is_sealed r.lanes)
@@ -98,6 +108,7 @@ summary_data r = one (codes "summary") (object
 abbrev pub told : List ℕ → Data → Option Data
 told name summary = option_and_then (get name) (get (codes "summary") summary)
 
+-- The summary's line.
 abbrev pub summary_text : Report → List ℕ
 summary_text r = line_text (summary_data r)
 
@@ -106,24 +117,27 @@ abbrev pub entries_text : ℕ → List Entry → List ℕ
 entries_text n [] = []
 entries_text n (e ∷ es) = entry_text n e ++ entries_text (n + 1) es
 
--- The steps of a shard; those of the shards from a number on.
+-- The steps of a shard.
 abbrev pub replays_text : ℕ → List ReplayEntry → List ℕ
 replays_text shard [] = []
 replays_text shard (r ∷ rs) = replay_text shard r ++ replays_text shard rs
 
+-- The steps of the shards from a number on.
 abbrev pub shards_text : ℕ → List (List ReplayEntry) → List ℕ
 shards_text shard [] = []
 shards_text shard (rs ∷ more) = replays_text shard rs ++ shards_text (shard + 1) more
 
--- The answers of a lane from a line on; those of the lanes from a number on.
+-- The answers of a lane from a line on.
 abbrev pub answers_text : ℕ → ℕ → List Answer → List ℕ
 answers_text lane line [] = []
 answers_text lane line (a ∷ more) = answer_text lane line a ++ answers_text lane (line + 1) more
 
+-- The answers of the lanes from a number on.
 abbrev pub lanes_text : ℕ → List LaneLog → List ℕ
 lanes_text lane [] = []
 lanes_text lane (log ∷ logs) = answers_text lane 0 log.answers ++ lanes_text (lane + 1) logs
 
+-- The notes in order.
 abbrev pub notes_text : List Note → List ℕ
 notes_text [] = []
 notes_text (n ∷ ns) = note_text n ++ notes_text ns

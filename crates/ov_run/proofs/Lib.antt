@@ -1,3 +1,6 @@
+-- What is known of a run's report, and of the lines that were counted.
 pub mod Reporting
+-- A text that is written in parts.
 pub mod Telling
+-- The words of a run.
 pub mod Words

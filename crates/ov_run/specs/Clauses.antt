@@ -34,6 +34,7 @@ cause_of (passed limit) = cause.Limit limit
 abbrev pub IsTold : Event → Cause → Type 0
 IsTold event told = (told ≡ cause_of event) ⊎ (told ≡ cause.Memory)
 
+-- The cause of a stop in reading.
 abbrev pub cause_of_stop : ReadStop → Cause
 cause_of_stop stop.Read = cause.ReadFault
 cause_of_stop (stop.Bad n) = cause.BadLine n
@@ -81,12 +82,13 @@ pub record Reported (before now : Option (List ℕ)) (report : Report) : Type 0 
   pub ended : IsAtEnd now
   pub read : (taken : List ℕ) → Gave before now taken → (now ≡ Some []) × Read taken report
 
--- Where a report's text was written whole, or a part of it.
+-- A report's text was written whole.
 pub record Wrote (before now : Option (List ℕ)) (report : Option Report) : Type 0 where
   pub it : Report
   pub is : report ≡ Some it
   pub whole : Appends before now (report_text it)
 
+-- A report's text was written in part.
 pub record WrotePart (before now : Option (List ℕ)) (report : Option Report) : Type 0 where
   pub it : Report
   pub is : report ≡ Some it
@@ -114,16 +116,19 @@ EndsBy old new before now report (cause.BadLine n) = ⊥
 EndsBy old new before now report (cause.Limit l) = ⊥
 EndsBy old new before now report cause.ReadFault = ⊥
 
+-- How a run that read its script whole ended, by its cause.
 abbrev pub Ran : Option (List ℕ) → Option (List ℕ) → ℕ → ℕ → Ended → Type 0
 Ran old new before now ended = EndsBy old new before now ended.report ended.cause
 
--- How many lines were taken and found good, by the cause: all lines where the script was run, those before
--- a bad one, those that were ended where a read failed or the limit was passed, and none where nothing was
--- read. Of want of memory before the script was read whole nothing more is said.
+-- How many lines were found good, where memory was wanting: all of them where the script was run; before
+-- that nothing is said.
 abbrev pub CountedRun : List ℕ → ℕ → Option Report → Type 0
 CountedRun taken good None = ⊤
 CountedRun taken good (Some report) = good ≡ length (whole_lines taken)
 
+-- How many lines were taken and found good, by the cause: all lines where the script was run, those before
+-- a bad one, those that were ended where a read failed or the limit was passed, and none where nothing was
+-- read.
 abbrev pub Counted : List ℕ → ℕ → Option Report → Cause → Type 0
 Counted taken good report cause.Fine = good ≡ length (whole_lines taken)
 Counted taken good report cause.WriteFault = good ≡ length (whole_lines taken)

@@ -3,6 +3,7 @@ use Rattle.std.specs.Prelude.{ℕ}
 use Rattle.ov_run.specs.declared.ended.Cause.{Cause}
 use Rattle.ov_run.specs.declared.ended.Cause.TheVariants as cause
 
+-- The exit status of each cause.
 abbrev pub status_of : Cause → ℕ
 status_of cause.Fine = 0
 status_of cause.Usage = 1

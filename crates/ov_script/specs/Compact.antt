@@ -10,6 +10,7 @@ use Rattle.hex.specs.Hex.{decode_of}
 unfoldable pub tx_text : ℕ → ℕ → List ℕ → List ℕ
 tx_text at lane digits = codes "{\"at\":" ++ (decimal at ++ (codes ",\"do\":\"tx\",\"lane\":" ++ (decimal lane ++ (codes ",\"packet\":\"" ++ (digits ++ codes "\"}")))))
 
+-- The value that this text is.
 unfoldable pub tx_data : ℕ → ℕ → List ℕ → Data
 tx_data at lane digits = object
     (member (codes "at") (number (unsigned at))
@@ -25,6 +26,7 @@ from_data addr port = object (member (codes "addr") (string addr) (member (codes
 unfoldable pub rx_text : ℕ → List ℕ → List ℕ → ℕ → ℕ → List ℕ
 rx_text at digits addr port lane = codes "{\"at\":" ++ (decimal at ++ (codes ",\"datagram\":\"" ++ (digits ++ (codes "\",\"do\":\"rx\",\"from\":{\"addr\":\"" ++ (addr ++ (codes "\",\"port\":" ++ (decimal port ++ (codes "},\"lane\":" ++ (decimal lane ++ codes "}")))))))))
 
+-- The value that this text is.
 unfoldable pub rx_data : ℕ → List ℕ → List ℕ → ℕ → ℕ → Data
 rx_data at digits addr port lane = object
     (member (codes "at") (number (unsigned at))
@@ -45,6 +47,7 @@ peer_data id remote port vpn = object
 unfoldable pub new_text : ℕ → ℕ → ℕ → List ℕ → ℕ → List ℕ → List ℕ
 new_text at lane id remote port vpn = codes "{\"at\":" ++ (decimal at ++ (codes ",\"do\":\"peer-new\",\"lane\":" ++ (decimal lane ++ (codes ",\"peer\":{\"id\":" ++ (decimal id ++ (codes ",\"remote-ipv4\":\"" ++ (remote ++ (codes "\",\"remote-port\":" ++ (decimal port ++ (codes ",\"vpn-ipv4\":\"" ++ (vpn ++ codes "\"}}")))))))))))
 
+-- The value that this text is.
 unfoldable pub new_data : ℕ → ℕ → ℕ → List ℕ → ℕ → List ℕ → Data
 new_data at lane id remote port vpn = object
     (member (codes "at") (number (unsigned at))
@@ -56,6 +59,7 @@ new_data at lane id remote port vpn = object
 abbrev pub dir_text : List ℕ → List ℕ → List ℕ
 dir_text key tail = codes "{\"cipher-key\":\"" ++ (key ++ (codes "\",\"nonce-tail\":\"" ++ (tail ++ codes "\"}")))
 
+-- The value that this text is.
 abbrev pub dir_data : List ℕ → List ℕ → Data
 dir_data key tail = object (member (codes "cipher-key") (string key) (member (codes "nonce-tail") (string tail) no_members))
 
@@ -75,6 +79,7 @@ unfoldable pub key_text : ℕ → List ℕ → List ℕ → List ℕ → List �
 key_text at opening opening_tail sealing sealing_tail key_id peer lane = codes "{\"at\":" ++ (decimal at ++ (codes ",\"do\":\"key-new\",\"keyconf\":{\"cipher-alg\":\"aes-gcm\",\"decrypt-dir\":" ++ (dir_text opening opening_tail
     ++ (codes ",\"encrypt-dir\":" ++ (dir_text sealing sealing_tail ++ (codes ",\"key-id\":" ++ (decimal key_id ++ (codes ",\"peer-id\":" ++ (decimal peer ++ (codes ",\"slot\":\"primary\"},\"lane\":" ++ (decimal lane ++ codes "}")))))))))))
 
+-- The value that this text is.
 unfoldable pub key_data : ℕ → List ℕ → List ℕ → List ℕ → List ℕ → ℕ → ℕ → ℕ → Data
 key_data at opening opening_tail sealing sealing_tail key_id peer lane = object
     (member (codes "at") (number (unsigned at))

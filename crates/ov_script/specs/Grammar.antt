@@ -65,40 +65,43 @@ pub record IsPeerMessage (o : NlOp) (d : Data) (m : NlMessage) : Type 0 where
   pub peer_is : IsPeer o object given
   pub message : m ≡ record { op = o; ifindex = None; peer = Some given; keyconf = None }
 
--- A line that asks for a new key: its object stands under `keyconf`, and it has no other names.
+-- The message of a new key.
 abbrev pub key_message_of : NlKeyConf → NlMessage
 key_message_of c = record { op = op.KeyNew; ifindex = None; peer = None; keyconf = Some c }
 
+-- A line that asks for a new key: its object stands under `keyconf`, and it has no other names.
 abbrev pub key_message : Data → Option NlMessage
 key_message d =
     if has_only (codes "at" ∷ codes "do" ∷ codes "keyconf" ∷ codes "lane" ∷ []) d
     then option_map key_message_of (option_and_then conf_of (get (codes "keyconf") d)) else None
 
--- A line that sends an inner packet: at most 65,483 bytes, so that with 24 bytes of head and tag it fits
--- into a UDP datagram.
+-- The most bytes of an inner packet to be sent: 65,483, so that with 24 bytes of head and tag it fits into
+-- a UDP datagram.
 abbrev pub is_packet_length : ℕ → Bool
 is_packet_length n = nat_le n 65483
 
+-- A line that sends an inner packet: its digits stand under `packet`, and it has no other names.
 abbrev pub tx_packet : Data → Option (List ℕ)
 tx_packet d = if has_only (codes "at" ∷ codes "do" ∷ codes "lane" ∷ codes "packet" ∷ []) d then sized_at is_packet_length (codes "packet") d else None
 
--- A line by which a datagram comes: where from, and at most 65,507 bytes, the most of a UDP datagram over
--- IPv4.
+-- The most bytes of a received datagram: 65,507, the most of a UDP datagram over IPv4.
 abbrev pub is_datagram_length : ℕ → Bool
 is_datagram_length n = nat_le n 65507
 
+-- The transport that a datagram came from stands under `from`.
 pub record IsFrom (d : Data) (from : Transport) : Type 0 where
   pub object : Data
   pub found : get (codes "from") d ≡ Some object
   pub transport : IsTransport object from
 
+-- A line by which a datagram comes: where from, and its digits, and it has no other names.
 pub record IsReceipt (d : Data) (from : Transport) (datagram : List ℕ) : Type 0 where
   pub only : IsTrue (has_only (codes "at" ∷ codes "datagram" ∷ codes "do" ∷ codes "from" ∷ codes "lane" ∷ []) d)
   pub sender : IsFrom d from
   pub bytes : sized_at is_datagram_length (codes "datagram") d ≡ Some datagram
 
--- The form of a line, by the word under `do`: the operations of the netlink family, a packet that is
--- sent, and a datagram that is received.
+-- The form of a line, by its word: the operations of the netlink family, a packet that is sent, and a
+-- datagram that is received.
 abbrev pub form_of : List ℕ → Option Form
 form_of word =
     if bytes_eq word (codes "peer-new") then Some (form.Netlink op.PeerNew) else
@@ -108,14 +111,16 @@ form_of word =
     (if bytes_eq word (codes "tx") then Some form.Tx else
     (if bytes_eq word (codes "rx") then Some form.Rx else None)))))
 
+-- The form of a line, by the word under `do`.
 abbrev pub form_at : Data → Option Form
 form_at d = option_and_then form_of (text_at (codes "do") d)
 
--- What a line of a form asks for, with the names that belong to it.
+-- What a line that asks for an operation says, with the names that belong to it.
 abbrev pub IsMessage : NlOp → Data → NlMessage → Type 0
 IsMessage op.KeyNew d m = key_message d ≡ Some m
 IsMessage o d m = IsPeerMessage o d m
 
+-- What a line of a form asks for, with the names that belong to it.
 abbrev pub HasForm : Form → Data → Deed → Type 0
 HasForm (form.Netlink o) d (deed.Netlink m) = IsMessage o d m
 HasForm form.Tx d (deed.Tx packet) = tx_packet d ≡ Some packet

@@ -35,6 +35,7 @@ abbrev pub byte_first : ℕ → List (List ℕ) → List ℕ → Cut
 byte_first b [] rest = record { ended = []; rest = b ∷ rest }
 byte_first b (line ∷ others) rest = record { ended = (b ∷ line) ∷ others; rest = rest }
 
+-- The lines and the rest of a list of bytes.
 abbrev pub cut : List ℕ → Cut
 cut [] = record { ended = []; rest = [] }
 cut (b ∷ bytes) = let others = cut bytes in if b == 10 then line_first [] others else byte_first b others.ended others.rest

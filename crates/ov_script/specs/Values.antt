@@ -35,6 +35,7 @@ abbrev pub is_among : List ℕ → List (List ℕ) → Bool
 is_among name [] = false
 is_among name (n ∷ names) = bytes_eq name n || is_among name names
 
+-- Whether an object's members have no names but these.
 abbrev pub only_members : List (List ℕ) → Members → Bool
 only_members names no_members = true
 only_members names (member name d ms) = is_among name names && only_members names ms
@@ -57,6 +58,7 @@ bytes_at name d = option_and_then (λ text. result_ok (decode_of text)) (text_at
 abbrev pub sized : (ℕ → Bool) → List ℕ → Option (List ℕ)
 sized fits bytes = if fits (length bytes) then Some bytes else None
 
+-- The bytes under a name, where there are as many as the test takes.
 abbrev pub sized_at : (ℕ → Bool) → List ℕ → Data → Option (List ℕ)
 sized_at fits name d = option_and_then (sized fits) (bytes_at name d)
 

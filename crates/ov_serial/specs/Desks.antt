@@ -36,9 +36,9 @@ use Rattle.ov_serial.specs.declared.past.Mark.TheVariants as mark
 
 -- ---- what the desk keeps
 
--- table: the peer table with its journal and notes; shards: the replay windows; first, next: where each
--- key's counter began, and the id that it gives next; marks: the events of the present line, its steps of
--- the table being those of the journal from `start` on; hold: what the line holds.
+-- What the desk keeps: the peer table with its journal and notes; the replay windows; where each key's
+-- counter began, and the id that it gives next; the events of the present line, its steps of the table
+-- being those of the journal from `start` on; what the line holds.
 pub record Serial : Type 0 where
   pub table : Recorded
   pub shards : List History
@@ -59,6 +59,7 @@ holding (hold.PeerLeft h) = PeerLeft h
 abbrev pub next_of : Serial → ℕ → ℕ
 next_of d key = get_or d.next key d.first
 
+-- The replay steps of all shards.
 abbrev pub histories : List History → List (List ReplayEntry)
 histories shards = map (λ s. s.entries) shards
 
@@ -84,9 +85,11 @@ owing_of NoHold t = waiting t
 owing_of (Both h) t = []
 owing_of (PeerLeft h) t = waiting t
 
+-- The steps of the present line.
 abbrev pub line_steps : Serial → List Step
 line_steps d = drop d.start (steps_of d.table.journal)
 
+-- What the desk has of the keys: what the journal installed.
 abbrev pub material_of_desk : Serial → ℕ → Option Material
 material_of_desk d = key_of d.table.journal
 
@@ -94,6 +97,7 @@ material_of_desk d = key_of d.table.journal
 abbrev pub itself : Addr → Addr
 itself a = a
 
+-- What the desk shows of the present line.
 abbrev pub shown_of : Serial → View
 shown_of d = record {
   events = events_of d.marks (line_steps d);
@@ -105,19 +109,22 @@ shown_of d = record {
 
 -- ---- what an event makes of it
 
--- The counters stay, or one of them goes up by the id that it gave, or it has none left.
+-- All counters stay.
 abbrev pub SameNext : Serial → Serial → Type 0
 SameNext d e = (key : ℕ) → next_of e key ≡ next_of d key
 
+-- A counter gave its next id and went up by one, and the others stay.
 pub record DrewId (d e : Serial) (key id : ℕ) : Type 0 where
   pub given : id ≡ next_of d key
   pub up : next_of e key ≡ next_of d key + 1
   pub others : (k : ℕ) → ¬ (k ≡ key) → next_of e k ≡ next_of d k
 
+-- A counter had no id left, and all stay.
 pub record DrewNone (d e : Serial) (key : ℕ) : Type 0 where
   pub none_left : next_of d key ≡ 4294967296
   pub same : SameNext d e
 
+-- What a draw made of the counters, by its answer.
 abbrev pub Draws : Serial → Serial → ℕ → Drawn → Type 0
 Draws d e key (drawn.Id id) = DrewId d e key id
 Draws d e key drawn.Spent = DrewNone d e key
@@ -127,9 +134,11 @@ abbrev pub SpentIsDry : Serial → Act → Type 0
 SpentIsDry d (act.Spend peer key) = next_of d key ≡ 4294967296
 SpentIsDry d _ = ⊤
 
+-- The step of a call at the recorded table.
 abbrev pub step_made : Recorded → Place → Call → Step
 step_made r place call = record { entry = entry_of r.now place call; taken = (step r.now call).taken }
 
+-- A step of the table was made, and nothing else.
 pub record HasStepped (d e : Serial) (s : Step) : Type 0 where
   pub may : May d.table.now s.entry.call
   pub step_is : s ≡ step_made d.table s.entry.place s.entry.call
@@ -138,6 +147,7 @@ pub record HasStepped (d e : Serial) (s : Step) : Type 0 where
   pub next : SameNext d e
   pub dry : SpentIsDry d s.entry.call.act
 
+-- A replay step was made in its key's shard, and nothing else.
 pub record HasJudged (d e : Serial) (j : Judgement) : Type 0 where
   pub table : e.table ≡ d.table
   pub shard : History
@@ -146,16 +156,19 @@ pub record HasJudged (d e : Serial) (j : Judgement) : Type 0 where
   pub shards : e.shards ≡ slice_set d.shards (j.key % 8) (record shard { entries = shard.entries ++ judged shard.entries j.place j.key j.id j.at ∷ [] })
   pub next : SameNext d e
 
+-- A draw was made, and nothing else.
 pub record HasDrawn (d e : Serial) (key : ℕ) (r : Drawn) : Type 0 where
   pub table : e.table ≡ d.table
   pub shards : e.shards ≡ d.shards
   pub draws : Draws d e key r
 
+-- Something was given back: table, windows and counters stay.
 pub record HasGiven (d e : Serial) : Type 0 where
   pub table : e.table ≡ d.table
   pub shards : e.shards ≡ d.shards
   pub next : SameNext d e
 
+-- What an event makes of the desk.
 abbrev pub Makes : Event → Serial → Serial → Type 0
 Makes (Stepped s) d e = HasStepped d e s
 Makes (Judged j) d e = HasJudged d e j
@@ -168,6 +181,7 @@ abbrev pub RoomAfter : Bool → (was now : ℕ) → Type 0
 RoomAfter true was now = now + 1 ≡ was
 RoomAfter false was now = now ≡ 8
 
+-- The room for marks, by the event.
 abbrev pub RoomGoes : Event → (was now : ℕ) → Type 0
 RoomGoes (Stepped s) was now = RoomAfter (is_release s.entry.call.act) was now
 RoomGoes (Judged j) was now = now ≡ 8
@@ -175,6 +189,7 @@ RoomGoes (Drew key r) was now = now + 1 ≡ was
 RoomGoes (GaveKey key g) was now = now + 1 ≡ was
 RoomGoes (GavePeer peer g) was now = now + 1 ≡ was
 
+-- An event happened at the desk.
 pub record Happened (d : Serial) (event : Event) (e : Serial) : Type 0 where
   pub makes : Makes event d e
   pub room : RoomGoes event d.room e.room
@@ -193,10 +208,11 @@ after_step d place call r = record d {
   hold = held_after d.hold call.act r;
 }
 
--- After a replay step, which the shard of the key has made.
+-- The replay step of a shard, as the line sees it.
 abbrev pub judgement_at : History → Place → (key id at : ℕ) → Judgement
 judgement_at shard place key id at = record { place = place; key = key; id = id; at = at; verdict = (judged shard.entries place key id at).verdict }
 
+-- After a replay step, which the shard of the key has made.
 abbrev pub after_judged : Serial → History → Place → (key id at : ℕ) → Serial
 after_judged d shard place key id at = record d {
   shards = slice_set d.shards (key % 8) (record shard { entries = shard.entries ++ judged shard.entries place key id at ∷ [] });
@@ -204,13 +220,15 @@ after_judged d shard place key id at = record d {
   room = 8;
 }
 
--- What a counter gives, and what it gives next: 4294967295 is its last id.
+-- What a counter gives: 4294967295 is its last id.
 abbrev pub drawn_of : ℕ → Drawn
 drawn_of next = if nat_lt next 4294967296 then drawn.Id next else drawn.Spent
 
+-- What a counter gives next, after it was asked.
 abbrev pub next_after : ℕ → ℕ
 next_after next = if nat_lt next 4294967296 then next + 1 else next
 
+-- After a draw.
 abbrev pub after_draw : Serial → ℕ → Serial
 after_draw d key = record d {
   next = slice_set d.next key (next_after (next_of d key));
@@ -218,11 +236,13 @@ after_draw d key = record d {
   room = d.room - 1;
 }
 
--- After the give-backs. The key's is the last where the line itself took it out of its slot.
+-- Whether a key that is given back was the last: where something waits to be let go, which the line itself
+-- took out of its slot.
 abbrev pub given_where : Option Owed → Given
 given_where None = given.More
 given_where (Some o) = given.Last
 
+-- After the key was given back.
 abbrev pub after_key : Serial → ℕ → Serial
 after_key d key = record d {
   hold = peer_left d.hold;
@@ -230,6 +250,7 @@ after_key d key = record d {
   room = d.room - 1;
 }
 
+-- After the peer was given back.
 abbrev pub after_peer : Serial → ℕ → Serial
 after_peer d peer = record d { hold = NoHold; marks = d.marks ++ mark.GavePeer peer given.More ∷ []; room = d.room - 1 }
 
@@ -239,11 +260,12 @@ owed_by NoHold o = o
 owed_by (Both h) o = None
 owed_by (PeerLeft h) o = o
 
--- After a release.
+-- The call that lets a peer or a key go.
 abbrev pub release_call : ℕ → Owed → Call
 release_call at (owed.Peer p) = record { at = at; act = act.Released p }
 release_call at (owed.Key k) = record { at = at; act = act.KeyReleased k }
 
+-- After a release.
 abbrev pub after_release : Serial → Place → ℕ → Owed → Serial
 after_release d place at o = record d { table = stepped d.table place (release_call at o); marks = d.marks ++ mark.Stepped ∷ []; room = d.room - 1 }
 
@@ -251,19 +273,22 @@ after_release d place at o = record d { table = stepped d.table place (release_c
 abbrev pub after_begin : Serial → Serial
 after_begin d = record d { marks = []; start = length d.table.journal }
 
--- The desk before any step.
+-- So many shards without a step.
 abbrev pub shards_to : ℕ → List History
 shards_to zero = []
 shards_to (suc n) = shards_to n ++ record { number = n; entries = [] } ∷ []
 
+-- The eight shards without a step.
 abbrev pub new_shards : List History
 new_shards = shards_to 8
 
+-- The desk before any step.
 abbrev pub new_desk : ℕ → Serial
 new_desk first = record { table = no_steps; shards = new_shards; first = first; next = []; marks = []; room = 0; start = 0; hold = NoHold }
 
 -- ---- what it keeps true
 
+-- How many steps of the table are among some marks.
 abbrev pub steps_marked : List Mark → ℕ
 steps_marked [] = 0
 steps_marked (mark.Stepped ∷ ms) = 1 + steps_marked ms
@@ -287,6 +312,7 @@ pub record Ready (d : Serial) (h : HoldView) : Type 0 where
   pub there : is_there h.peer d.table.now.live ≡ true
   pub key : list_any (has_key h.key) d.table.now.live ≡ true
 
+-- What is kept true of a hold, by where the line stands.
 abbrev pub StandSound : Serial → HoldView → Stand → Type 0
 StandSound d h (stand.Looked view) = Ready d h
 StandSound d h (stand.Drew view drawn.Spent) = Ready d h × (next_of d h.key ≡ 4294967296)
@@ -294,6 +320,7 @@ StandSound d h (stand.Drew view (drawn.Id n)) = Ready d h
 StandSound d h (stand.Judged view) = Ready d h
 StandSound d h _ = ⊤
 
+-- What is kept true while a peer and its key are held.
 pub record HoldSound (d : Serial) (h : HoldView) (s : Stand) : Type 0 where
   pub material : Material
   pub installed : key_of d.table.journal h.key ≡ Some material
@@ -302,11 +329,13 @@ pub record HoldSound (d : Serial) (h : HoldView) (s : Stand) : Type 0 where
   pub killed : key_serials d.table.now.retired ≡ killed_by h s
   pub sound : StandSound d h s
 
+-- What is kept true of what is held.
 abbrev pub IsHeldSound : Serial → Holding → Stand → Type 0
 IsHeldSound d NoHold s = ⊤
 IsHeldSound d (Both h) s = HoldSound d h s
 IsHeldSound d (PeerLeft h) s = d.table.now.dying ≡ []
 
+-- What the desk keeps true.
 pub record Sound (d : Serial) : Type 0 where
   pub told : IsTold d.table
   pub eight : length d.shards ≡ 8

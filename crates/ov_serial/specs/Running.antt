@@ -38,10 +38,12 @@ pub record TurnedOn (d e : Serial) (place : Place) (line : Line) (s t : Stage) :
   pub since : (d0 : Serial) → Since d0 d (shown_of d).events → Since d0 e (shown_of e).events
   pub fewer : turns_left e (stand_at t) + 1 ≤ turns_left d (stand_at s)
 
+-- A turn that answered the line.
 pub record TurnedOver (d e : Serial) (place : Place) (line : Line) (b : Answer) : Type 0 where
   pub over : Over itself place line (shown_of e) b
   pub since : (d0 : Serial) → Since d0 d (shown_of d).events → Since d0 e (shown_of e).events
 
+-- A turn, as it answered.
 abbrev pub Turned : Serial → Serial → Place → Line → Stage → Stage → Progress → Type 0
 Turned d e place line s t More = TurnedOn d e place line s t
 Turned d e place line s t (Answered b) = TurnedOver d e place line b

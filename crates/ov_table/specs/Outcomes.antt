@@ -24,6 +24,7 @@ serial_list (Some key) = key ∷ []
 abbrev pub outcome_with : Table → Reply → Option NoteBody → (first second : Option ℕ) → model.Outcome
 outcome_with after reply note first second = record { after = after; reply = reply; taken = serial_list first ++ serial_list second; notes = note_list note }
 
+-- The outcome of a step that takes at most two keys out of their slots.
 abbrev pub outcome : Table → Outcome → model.Outcome
 outcome after o = outcome_with after o.reply o.note o.first o.second
 
@@ -32,6 +33,7 @@ abbrev pub free : List Peer → Option Transport → Option Transport
 free live None = None
 free live (Some from) = if is_some (by_remote from live) then None else Some from
 
+-- A peer with another remote, where one is given.
 abbrev pub moved : Option Transport → Peer → Peer
 moved None p = p
 moved (Some remote) p = record p { remote = remote }
@@ -45,6 +47,7 @@ key_put t now c i p = model.unless t now (model.key_new_checks t) (record {
   notes = [];
 })
 
+-- A spent key is taken out of its slot at a place of the live peers.
 abbrev pub spent_at : Table → ℕ → ℕ → ℕ → Peer → Key → model.Outcome
 spent_at t now i key p k = record {
   after = record t { live = slice_set t.live i (record p { slots = without_key key p.slots }); retired = t.retired ++ k ∷ []; moment = now };
@@ -53,5 +56,6 @@ spent_at t now i key p k = record {
   notes = note.KeySwap p.id k.key_id ∷ [];
 }
 
+-- The step of a spent key at a place of the live peers.
 abbrev pub spent_of : Table → ℕ → ℕ → ℕ → Peer → model.Outcome
 spent_of t now i key p = model.where_found t now reply.AlreadyGone (by_key key p.slots) (spent_at t now i key p)

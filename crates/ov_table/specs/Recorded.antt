@@ -12,8 +12,9 @@ use Rattle.ov_model.specs.Tables.{Key, Peer, Table, empty_table}
 use Rattle.ov_model.specs.Step.{step}
 use Rattle.ov_model.specs.Runs.{IsRun, last_table, notes_of, numbered}
 
--- now: the table after all steps so far; journal: their entries; notes: their notifications; taken: the
--- serials of the keys that the last step took out of a slot, in order.
+-- The peer table with its record: `now` is the table after all steps so far, `journal` their entries,
+-- `notes` their notifications, `taken` the serials of the keys that the last step took out of a slot, in
+-- order.
 pub record Recorded : Type 0 where
   pub now : Table
   pub journal : List Entry
@@ -54,5 +55,6 @@ waiting_of (k ∷ keys) peers = Some (owed.Key k.serial)
 waiting_of [] (p ∷ peers) = Some (owed.Peer p.serial)
 waiting_of [] [] = None
 
+-- What a table may let go first.
 abbrev pub first_waiting : Table → Option Owed
 first_waiting t = waiting_of t.retired t.dying
