@@ -4,6 +4,8 @@
 mod held;
 mod hold;
 mod steps;
+#[cfg(test)]
+mod tests;
 
 pub use held::Held;
 pub use hold::{get, give_back, link, unlink};

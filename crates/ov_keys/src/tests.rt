@@ -97,3 +97,10 @@ fn a_key_is_killed_in_either_slot(rt: HostRuntime) -> Result<(), Fail> {
     assert_eq!(rt; serial(slots.primary()), None);
     Ok(())
 }
+
+#[test]
+fn no_byte_of_a_direction_is_printed(rt: HostRuntime) -> Result<(), Fail> {
+    let text = format!(in rt.alloc(); "{:?}", dir(171))?;
+    assert!(rt; text.as_str() == "KeyDir(a key of 16 bytes, a tail of 8)");
+    Ok(())
+}

@@ -300,4 +300,19 @@ mod tests {
         }
         Ok(())
     }
+
+    #[test]
+    fn no_byte_of_a_direction_is_printed(rt: HostRuntime) -> Result<(), Fail> {
+        let text = format!(in rt.alloc(); "{:?}", dir(rt.alloc(), 16, 8)?)?;
+        assert!(rt;
+            text.as_str() == "Some(NlKeyDir(bytes of the key: Some(16), of the tail: Some(8)))"
+        );
+        let none = NlKeyDir {
+            cipher_key: None,
+            nonce_tail: None,
+        };
+        let text = format!(in rt.alloc(); "{none:?}")?;
+        assert!(rt; text.as_str() == "NlKeyDir(bytes of the key: None, of the tail: None)");
+        Ok(())
+    }
 }

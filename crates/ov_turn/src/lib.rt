@@ -6,6 +6,8 @@ mod inside;
 mod kept;
 mod lends;
 mod place;
+#[cfg(test)]
+mod tests;
 mod turn;
 
 pub use inside::Inside;
