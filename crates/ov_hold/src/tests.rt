@@ -22,7 +22,8 @@ enum Door {
 impl Door {
     /// Opens the door, and says whether it did.
     fn open(&mut self) -> bool
-        ensures { MatchBool result ((self.old ≡ Door.Unopened) × (self.new ≡ Door.Open)) (self.new ≡ self.old) }
+        ensures from { MatchBool result (self.old ≡ Door.Unopened) (self.new ≡ self.old) }
+        ensures to { MatchBool result (self.new ≡ Door.Open) (self.new ≡ self.old) }
     {
         let opens = *self == Door::Unopened;
         if opens {
@@ -33,7 +34,8 @@ impl Door {
 
     /// Shuts the door, and says whether it did.
     fn shut(&mut self) -> bool
-        ensures { MatchBool result ((self.old ≡ Door.Open) × (self.new ≡ Door.Shut)) (self.new ≡ self.old) }
+        ensures from { MatchBool result (self.old ≡ Door.Open) (self.new ≡ self.old) }
+        ensures to { MatchBool result (self.new ≡ Door.Shut) (self.new ≡ self.old) }
     {
         let shuts = *self == Door::Open;
         if shuts {
@@ -84,7 +86,8 @@ fn open<R: Wait>(rt: &R, turn: &Turn<Door>, seat: TurnSeat<Door>, held: &mut Hel
     inside.leave()
 }
 
-/// Shuts the door and unlinks its cell. The answer is also what `unlink` said, or `Last` where the door wasn't open.
+/// Shuts the door and unlinks its cell. The answer is also what `unlink` said, or `Last` where the
+/// door wasn't open.
 fn shut<R: Wait>(rt: &R, turn: &Turn<Door>, seat: TurnSeat<Door>) -> (TurnSeat<Door>, Given)
     requires seat { IsSeatOf turn.now seat }
     ensures turn { IsSeatOf turn.entry.now result.0 }
@@ -100,7 +103,8 @@ fn shut<R: Wait>(rt: &R, turn: &Turn<Door>, seat: TurnSeat<Door>) -> (TurnSeat<D
     (inside.leave(), unlinked)
 }
 
-/// Gives the hold back. The answer is also what `give_back` said, or `More` where there was no hold.
+/// Gives the hold back. The answer is also what `give_back` said, or `More` where there was no
+/// hold.
 fn release(turn: &Turn<Door>, mut seat: TurnSeat<Door>, held: &mut Held) -> (TurnSeat<Door>, Given)
     requires seat { IsSeatOf turn.now seat }
     requires holds { holds_of seat ≡ held.old }
