@@ -10,5 +10,5 @@ use Rattle.ov_path.proofs.tests.walks.turn.Goals as goal
 pub returns : goal.returns
 returns c = record {
   then = subst (λ (h : Option Addr). Progressed (hop_or h) c.turn.new.self.place c.args.line.now (shown_of c.turn.new.desk) c.turn.new.self.stage c.in_ok-progress.progress)
-    (sym (hop_stays (hop_or c.args.desk.now.hop) c.args.walk.now.place c.args.line.now c.args.desk.now c.turn.new.desk c.in_ok-progress.progress c.in_ok-progress.ensures.made)) c.in_ok-progress.ensures.then;
+      (sym (hop_stays (hop_or c.args.desk.now.hop) c.args.walk.now.place c.args.line.now c.args.desk.now c.turn.new.desk c.in_ok-progress.progress c.in_ok-progress.ensures.made)) c.in_ok-progress.ensures.then;
 }

@@ -27,7 +27,7 @@ told c =
     c.push.ensures.events
     ∙ ap (λ (p : Past). p.events ++ c.stepped.result ∷ []) c.in_ok-reserve.ensures.ok
     ∙ ap (λ (e : Event). (was c).events ++ e ∷ [])
-      (c.stepped.ensures ∙ ap (λ (r : Reply). stepped_as c.args.place c.args.call.now r (taken_by c.args.call.now.act r)) c.in_ok-kept.ensures)
+    (c.stepped.ensures ∙ ap (λ (r : Reply). stepped_as c.args.place c.args.call.now r (taken_by c.args.call.now.act r)) c.in_ok-kept.ensures)
 
 has : (c : goal.After-push) → HasMaterial (one_key (was c).pair) c.args.call.now.act c.in_ok-reply.reply
 has c = subst (λ (k : Kept). HasMaterial (one_key k.pair) c.args.call.now.act c.in_ok-reply.reply) (sym c.self.view_is) c.in_ok-reply.ensures.has
