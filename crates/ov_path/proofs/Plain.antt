@@ -17,7 +17,8 @@ use Rattle.ov_model.specs.Tables.{Material}
 use Rattle.ov_model.specs.Events.{Event, Drew}
 use Rattle.ov_model.specs.Path.{SomeOf, none, kept, passed, removed}
 use Rattle.ov_model.specs.Next.{stand_of, drew}
-use Rattle.ov_path.specs.Desks.{Holding, NoHold, Both, PeerLeft, HoldsKey, IsLooked, Joins, HasMaterial}
+use Rattle.ov_path.specs.Desks.{Holding, NoHold, Both, PeerLeft, HoldsKey, IsLooked, Joins, HasMaterial, IsReplyOf, Called, held_after, stepped_as}
+use Rattle.ov_model.specs.declared.act.Call.{Call}
 use Rattle.ov_base.specs.declared.address.Addr.{Addr}
 use Rattle.ov_model.specs.declared.place.Place.{Place}
 use Rattle.ov_model.specs.declared.line.Line.{Line}
@@ -120,7 +121,30 @@ has_key m (act.KeyReleased key) h = tt
 -- ---- the next hops
 
 -- Whatever a turn did, the desk has the next hop that it had.
-pub hop_stays : {via : Addr → Addr} {place : Place} {line : Line} {d e : Kept} (r : Progress) → MadeBy shown_of (λ (p : Kept) (x : Event) (q : Kept). q.hop ≡ p.hop) via place line r d e → e.hop ≡ d.hop
-hop_stays More m = m.done
-hop_stays (Answered a) (made m) = m.done
-hop_stays (Answered a) (nothing nil same) = ap (λ (k : Kept). k.hop) same
+pub hop_stays : (via : Addr → Addr) (place : Place) (line : Line) (d e : Kept) (r : Progress) → MadeBy shown_of (λ (p : Kept) (x : Event) (q : Kept). q.hop ≡ p.hop) via place line r d e → e.hop ≡ d.hop
+hop_stays via place line d e More m = m.done
+hop_stays via place line d e (Answered a) (made m) = m.done
+hop_stays via place line d e (Answered a) (nothing nil same) = ap (λ (k : Kept). k.hop) same
+
+-- ---- a step of the table
+
+-- The step's event was told, and what was held and owed became so.
+pub called : (old new : Kept) (place : Place) (call : Call) (r : Reply) → IsReplyOf call.act r → IsDistinct nat_eq (removed r) → HasMaterial (one_key old.pair) call.act r
+    → new.events ≡ old.events ++ stepped_as place call r (taken_by call.act r) ∷ [] → new.hold ≡ held_after old.hold call.act r → Joined call.act r old.owing new.owing → new.pair ≡ old.pair → new.hop ≡ old.hop
+    → Called shown_of (λ (p : Kept) (x : Event) (q : Kept). q.hop ≡ p.hop) old place call r new
+called old new place call r fits apart has events hold joined pair hop = record {
+  taken = taken_by call.act r;
+  joined = joined.joined;
+  fits = fits;
+  joins = joined.joins;
+  apart = apart;
+  has = subst (λ (m : Material). HasMaterial (one_key m) call.act r) (sym pair) has;
+  leaves = record {
+    events = events;
+    hold_is = hold;
+    owing_is = joined.is;
+    grows = λ key m is. subst (λ (n : Material). one_key n key ≡ Some m) (sym pair) is;
+    hops = tt;
+  };
+  done = hop;
+}

@@ -7,7 +7,8 @@ use Rattle.ov_path.specs.Walks.{Progressed}
 use Rattle.ov_path.proofs.Plain.{hop_stays}
 use Rattle.ov_path.proofs.tests.walks.turn.Goals as goal
 
-pub returns-clause-then : goal.returns-clause-then
-returns-clause-then c =
-    subst (λ (h : Option Addr). Progressed (hop_or h) c.turn.new.self.place c.args.line.now (shown_of c.turn.new.desk) c.turn.new.self.stage c.in_ok-progress.progress)
-    (sym (hop_stays c.in_ok-progress.progress c.in_ok-progress.ensures.made)) c.in_ok-progress.ensures.then
+pub returns : goal.returns
+returns c = record {
+  then = subst (λ (h : Option Addr). Progressed (hop_or h) c.turn.new.self.place c.args.line.now (shown_of c.turn.new.desk) c.turn.new.self.stage c.in_ok-progress.progress)
+      (sym (hop_stays (hop_or c.args.desk.now.hop) c.args.walk.now.place c.args.line.now c.args.desk.now c.turn.new.desk c.in_ok-progress.progress c.in_ok-progress.ensures.made)) c.in_ok-progress.ensures.then;
+}
