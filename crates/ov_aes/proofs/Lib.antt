@@ -16,3 +16,5 @@ pub mod NibbleFacts
 pub mod RoundFacts
 -- The round keys as they are kept.
 pub mod KeptFacts
+-- The state from round to round, in the inner form.
+pub mod States

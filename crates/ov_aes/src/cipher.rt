@@ -77,3 +77,31 @@ pub fn encrypted(keys: &[u8; KEYS], rounds: usize, block: [u8; 16]) -> [u8; 16]
     }
     last_round(state, kept_at(keys, rounds)).to_array()
 }
+
+/// The cipher of two blocks side by side: the rounds of one don't wait for those of the other.
+pub fn encrypted_two(
+    keys: &[u8; KEYS],
+    rounds: usize,
+    first: [u8; 16],
+    second: [u8; 16],
+) -> ([u8; 16], [u8; 16])
+    requires { (1 ≤ rounds) × (rounds < 15) }
+    ensures first { (w : List (List ℕ)) → HasKeys keys.now w rounds → result.0 ≡ cipher w rounds first }
+    ensures second { (w : List (List ℕ)) → HasKeys keys.now w rounds → result.1 ≡ cipher w rounds second }
+{
+    let begin = kept_at(keys, 0);
+    let mut one = inner_form(vector_of(first) ^ begin);
+    let mut other = inner_form(vector_of(second) ^ begin);
+    for r in 1..rounds {
+        let key = kept_at(keys, r);
+        let next_one = round(one, key);
+        let next_other = round(other, key);
+        one = next_one;
+        other = next_other;
+    }
+    let end = kept_at(keys, rounds);
+    (
+        last_round(one, end).to_array(),
+        last_round(other, end).to_array(),
+    )
+}

@@ -4,7 +4,7 @@ ghost use Rattle.std.specs.Prelude.{◌≡◌, ◌↔◌, length, IfOk, IfErr, I
 ghost use Rattle.ov_aes.specs.Aes.{IsKeyLength, key_list};
 ghost use Rattle.ov_aes.specs.Cipher.{aes};
 
-use crate::cipher::encrypted;
+use crate::cipher::{encrypted, encrypted_two};
 use crate::key_bytes::{KeyBytes, KeyLength};
 use crate::key_schedule::expand;
 use crate::round_keys::{KEYS, kept_of};
@@ -76,5 +76,13 @@ impl AesKey {
         ensures { result ≡ aes (key_list self.now) block }
     {
         encrypted(&self.keys, self.rounds, block)
+    }
+
+    /// The blocks that the cipher makes of two blocks, in less time than one after the other.
+    pub fn encrypt_two(&self, first: [u8; 16], second: [u8; 16]) -> ([u8; 16], [u8; 16])
+        ensures first { result.0 ≡ aes (key_list self.now) first }
+        ensures second { result.1 ≡ aes (key_list self.now) second }
+    {
+        encrypted_two(&self.keys, self.rounds, first, second)
     }
 }

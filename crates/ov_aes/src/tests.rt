@@ -46,6 +46,7 @@ fn the_example_vectors_of_the_standard(rt: HostRuntime) -> Result<(), Fail> {
     for (length, expected) in VECTORS {
         let key = AesKey::new(&KEY[..length])?;
         assert_eq!(rt; key.encrypt(BLOCK), expected);
+        assert_eq!(rt; key.encrypt_two(BLOCK, BLOCK), (expected, expected));
     }
     Ok(())
 }

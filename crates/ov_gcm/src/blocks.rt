@@ -1,6 +1,6 @@
 // Blocks of 16 bytes: sums, padding and lengths.
 
-ghost use Rattle.std.specs.Prelude.{◌≡◌, ℕ, ◌+◌, ◌-◌, ◌*◌, ◌<◌, ◌≤◌, ◌++◌, List, length};
+ghost use Rattle.std.specs.Prelude.{◌≡◌, ℕ, ◌+◌, ◌-◌, ◌*◌, ◌<◌, ◌≤◌, ◌++◌, List, [], ◌∷◌, length};
 ghost use Rattle.std.specs.Int.{w64, to_be_bytes};
 ghost use Rattle.ov_aes.specs.Field.{plus};
 ghost use Rattle.ov_ghash.specs.Block.{ghash};
@@ -35,12 +35,23 @@ fn padded_with_zeros(bytes: &[u8]) -> [u8; BLOCK]
     requires { length bytes.now ≤ 16 }
     ensures { result ≡ padded bytes.now }
 {
-    if let Some(block) = bytes.as_array::<BLOCK>() {
-        return *block;
-    }
     let mut block = [0; BLOCK];
     block[..bytes.len()].copy_from_slice(bytes);
     block
+}
+
+/// GHASH of blocks and at most 16 bytes more, padded, where `sum` is GHASH of the blocks. A whole block goes
+/// without a copy.
+#[inline(always)]
+fn folded_part(key: &HashKey, sum: [u8; BLOCK], bytes: &[u8]) -> [u8; BLOCK]
+    requires { length bytes.now ≤ 16 }
+    ensures { (h : List ℕ) (xs : List (List ℕ)) → IsPrepared key.now h →
+        ghash h xs ≡ sum → ghash h (xs ++ padded bytes.now ∷ []) ≡ result }
+{
+    match bytes.as_array::<BLOCK>() {
+        Some(block) => key.folded(sum, *block),
+        None => key.folded(sum, padded_with_zeros(bytes)),
+    }
 }
 
 /// GHASH of blocks and the blocks of `bytes`, the last one padded, where `sum` is GHASH of those before.
@@ -52,7 +63,7 @@ pub fn absorbed(key: &HashKey, sum: [u8; BLOCK], bytes: &[u8]) -> [u8; BLOCK]
     let mut sum = sum;
     for i in 0..bytes.len().div_ceil(BLOCK) {
         let end = bytes.len().min(BLOCK * i + BLOCK);
-        let next = key.folded(sum, padded_with_zeros(&bytes[BLOCK * i..end]));
+        let next = folded_part(key, sum, &bytes[BLOCK * i..end]);
         sum = next;
     }
     sum

@@ -1,12 +1,12 @@
 -- Sums over the bytes of a block, by Horner's rule from the lowest byte on.
 use Rattle.std.proofs.Common.{◌≡◌, ℕ, zero, suc, ◌+◌, ◌*◌, ◌/◌, ◌%◌, ◌^◌, ◌<◌, bit_xor, refl, sym, ap, ap₂, ◌∙◌, arith, zero-add, add-one, suc-add, add_comm}
 use Rattle.std.specs.Int.{byte_at}
-use Rattle.std.specs.Int.Bits.{xor_assoc, xor_zero_r}
+use Rattle.std.specs.Int.Bits.{xor_assoc}
 use Rattle.std.proofs.Math.Nat.{pow-suc}
 use Rattle.std.proofs.lemmas.Nat.{xor_comm, pow-add}
 use Rattle.ov_ghash.specs.Block.{bits}
 use Rattle.ov_ghash.specs.Turn.{turn, turns, horner}
-use Rattle.ov_ghash.proofs.Turning.{xor_pairs, turns-xor, turns_split, horner-zero, horner-xor, horner-turns, horner-horner}
+use Rattle.ov_ghash.proofs.Turning.{xor_pairs, turns-xor, horner-zero, horner-xor, horner-turns, horner-horner}
 use Rattle.ov_ghash.proofs.BitLists.{horner-bits, horner-bits-more}
 use Rattle.ov_ghash.proofs.Tables.{horner-byte-more}
 
@@ -50,7 +50,7 @@ by_bytes-xor (suc n) v w =
     rw (by_bytes-xor n v w, turns-xor 8 (by_bytes n v) (by_bytes n w))
     (xor_pairs (v n) (w n) (turns 8 (by_bytes n v)) (turns 8 (by_bytes n w)))
 
-by_bytes-turns : (n k : ℕ) (v : ℕ → ℕ) → by_bytes n (λ i. turns k (v i)) ≡ turns k (by_bytes n v)
+pub by_bytes-turns : (n k : ℕ) (v : ℕ → ℕ) → by_bytes n (λ i. turns k (v i)) ≡ turns k (by_bytes n v)
 unfolding by_bytes
 by_bytes-turns zero k v = sym (turns-zero k)
 by_bytes-turns (suc n) k v =
@@ -116,36 +116,3 @@ pub byte-product : (b h : ℕ) → b < 256 → h < 2 ^ 128 → horner (bits 8 b)
 byte-product b h small small_h =
     ap (horner (bits 8 b)) (sym (horner-bits h small_h)) ∙ horner-horner (bits 8 b) (bits 128 h) (2 ^ 127)
     ∙ ap (horner (bits 128 h)) (horner-bits-more 8 120 b refl ∙ omega arith)
-
--- ---- a polynomial of degree below 256 is reduced by four sums
-
-overflow-places : turns 128 (2 ^ 127) ≡ bit_xor (2 ^ 127) (bit_xor (turns 1 (2 ^ 127)) (bit_xor (turns 2 (2 ^ 127)) (turns 7 (2 ^ 127))))
-unfolding turns turn
-overflow-places = refl
-
-turns_128 : (z : ℕ) → z < 2 ^ 128 → turns 128 z ≡ bit_xor z (bit_xor (turns 1 z) (bit_xor (turns 2 z) (turns 7 z)))
-turns_128 z small =
-    let product : ℕ → ℕ = horner (bits 128 z) in
-    let one : ℕ = 2 ^ 127 in
-    let place : (k : ℕ) → product (turns k one) ≡ turns k z =
-    λ k. horner-turns k (bits 128 z) one ∙ ap (turns k) (horner-bits z small) in
-    sym (place 128) ∙ ap product overflow-places
-    ∙ horner-xor (bits 128 z) one (bit_xor (turns 1 one) (bit_xor (turns 2 one) (turns 7 one)))
-    ∙ ap₂ bit_xor (horner-bits z small)
-    (horner-xor (bits 128 z) (turns 1 one) (bit_xor (turns 2 one) (turns 7 one))
-    ∙ ap₂ bit_xor (place 1)
-    (horner-xor (bits 128 z) (turns 2 one) (turns 7 one) ∙ ap₂ bit_xor (place 2) (place 7)))
-
--- where no bit falls out
-turns-moves : (k z : ℕ) → z % 2 ^ k ≡ 0 → turns k z ≡ z / 2 ^ k
-turns-moves k z none =
-    turns_split k z ∙ ap (λ (x : ℕ). bit_xor (z / 2 ^ k) (turns k x)) none
-    ∙ ap (bit_xor (z / 2 ^ k)) (turns-zero k) ∙ xor_zero_r (z / 2 ^ k)
-
-pub reduced-is : (high low : ℕ) → low < 2 ^ 128 → low % 2 ^ 8 ≡ 0 → bit_xor (bit_xor (bit_xor (bit_xor high low) (low / 2)) (low / 4)) (low / 128) ≡ bit_xor high (turns 128 low)
-reduced-is high low small none =
-    xor_assoc (bit_xor (bit_xor high low) (low / 2)) (low / 4) (low / 128)
-    ∙ xor_assoc (bit_xor high low) (low / 2) (bit_xor (low / 4) (low / 128))
-    ∙ xor_assoc high low (bit_xor (low / 2) (bit_xor (low / 4) (low / 128)))
-    ∙ ap (bit_xor high) (sym (turns_128 low small
-    ∙ ap (bit_xor low) (ap₂ bit_xor (turns-moves 1 low (omega arith)) (ap₂ bit_xor (turns-moves 2 low (omega arith)) (turns-moves 7 low (omega arith))))))

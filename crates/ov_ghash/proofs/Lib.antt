@@ -10,6 +10,8 @@ pub mod Tables
 pub mod ByBytes
 -- Vectors of bytes as numbers, and the rows of the products of half bytes.
 pub mod RowFacts
+-- A vector of bytes past x^128, byte by byte, and the bytes of its remainder.
+pub mod Remainders
 -- How the sum follows the blocks as they come.
 pub mod Held
 -- Products bit by bit, from the first coefficient to the last.

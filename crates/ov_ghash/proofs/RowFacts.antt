@@ -3,7 +3,7 @@ use Rattle.std.proofs.Common.{◌≡◌, ℕ, zero, suc, ◌+◌, ◌-◌, ◌*�
 use Rattle.std.specs.Int.{w128, byte_at, bytes_low_first, bytes_high_first, to_le_bytes, to_be_bytes}
 use Rattle.std.specs.Int.Bits.{xor_assoc, xor_zero_l, xor_zero_r, xor_shifted}
 use Rattle.std.proofs.Math.Nat.{mul-le-mul_left}
-use Rattle.std.proofs.lemmas.Nat.{xor_shr, xor_mod, xor_lt, xor_block, pow-add, shl_below}
+use Rattle.std.proofs.lemmas.Nat.{xor_shr, xor_mod, xor_lt, xor_block, pow-add, shl_below, div-mul-add}
 use Rattle.std.proofs.lemmas.List.FromFn.{get_or-map-range_with_len, fill_by_all}
 use Rattle.std.proofs.lemmas.Simd.{get_or-zip2, length-zip2, get_or-replicate, Each1-from_get_or}
 use lib.Lanes.{zip2, Each1}
@@ -87,10 +87,10 @@ vector-xor xs ys long_xs long_ys =
 -- ---- a vector that is moved on by a byte
 
 -- all bytes but the last, moved on by one
-front : List ℕ → ℕ
+pub front : List ℕ → ℕ
 front v = by_bytes 15 (λ i. get_or v (14 - i) 0 * 2 ^ 120)
 
-vector-split : (v : List ℕ) → vector v ≡ bit_xor (front v) (get_or v 15 0)
+pub vector-split : (v : List ℕ) → vector v ≡ bit_xor (front v) (get_or v 15 0)
 unfolding vector front
 vector-split v =
     by_bytes-first 15 (λ i. get_or v (15 - i) 0 * 2 ^ 120)
@@ -99,7 +99,7 @@ vector-split v =
     (λ i below. let place : 15 - suc i ≡ 14 - i = omega arith in ap (λ (k : ℕ). get_or v k 0 * 2 ^ 120) place))
     (turns-shift 120 (get_or v 15 0))
 
-vector-moved : (r v : List ℕ) → ((k : ℕ) → k < 15 → get_or r (k + 1) 0 ≡ get_or v k 0) → vector r ≡ bit_xor (get_or r 0 0 * 2 ^ 120) (turns 8 (front v))
+pub vector-moved : (r v : List ℕ) → ((k : ℕ) → k < 15 → get_or r (k + 1) 0 ≡ get_or v k 0) → vector r ≡ bit_xor (get_or r 0 0 * 2 ^ 120) (turns 8 (front v))
 unfolding vector front by_bytes
 vector-moved r v rest =
     ap (λ (x : ℕ). bit_xor (get_or r 0 0 * 2 ^ 120) (turns 8 x))
@@ -204,10 +204,6 @@ bytes_small [] fits k = omega arith
 bytes_small (x ∷ xs) fits zero = fits.0.fits
 bytes_small (x ∷ xs) fits (suc k) = bytes_small xs fits.1 k
 
-pub number_of-last : (v : List ℕ) → get_or v 15 0 ≡ 0 → number_of v % 2 ^ 8 ≡ 0
-unfolding number_of
-number_of-last v none = omega (arith, none)
-
 -- the last byte of one vector and all but the last of another
 pub moved-rest : (before v : List ℕ) → length before ≡ 16 → (k : ℕ) → k < 15
     → get_or (map (λ j. get_or (before ++ v) (15 + j) 0) (range_with_len 0 16)) (k + 1) 0 ≡ get_or v k 0
@@ -248,7 +244,7 @@ zeros-more next low place fallen long first rest start before (suc k) past =
 
 -- ---- sums of vectors, and the bytes of a number
 
-zip2_small : (xs ys : List ℕ) → length xs ≡ 16 → length ys ≡ 16 → ((k : ℕ) → get_or xs k 0 < 256) → ((k : ℕ) → get_or ys k 0 < 256)
+pub zip2_small : (xs ys : List ℕ) → length xs ≡ 16 → length ys ≡ 16 → ((k : ℕ) → get_or xs k 0 < 256) → ((k : ℕ) → get_or ys k 0 < 256)
     → (k : ℕ) → get_or (zip2 bit_xor xs ys) k 0 < 256
 zip2_small xs ys long_xs long_ys small_xs small_ys k =
     ⊎_elim
@@ -280,3 +276,37 @@ vector-bytes q = refl
 pub number_of-bytes : (q : ℕ) → q < 2 ^ 128 → number_of (to_be_bytes w128 q) ≡ q
 number_of-bytes q small =
     number_of-vector (to_be_bytes w128 q) (high_first-small 16 q) ∙ vector-bytes q ∙ sym (by_its_bytes q small)
+
+-- ---- the bytes of a vector's number are the vector
+
+-- f (n - 1) ... f 0
+listed : ℕ → (ℕ → ℕ) → List ℕ
+listed zero f = []
+listed (suc n) f = f n ∷ listed n f
+
+high_first-digits : (n rest : ℕ) (f : ℕ → ℕ) → ((i : ℕ) → f i < 256) → bytes_high_first n (rest * 2 ^ (8 * n) + digits n f) ≡ listed n f
+unfolding digits listed
+high_first-digits zero rest f small = refl
+high_first-digits (suc n) rest f small =
+    let top : ℕ = rest * 256 + f n in
+    let d : ℕ = digits n f in
+    let longer : 8 * suc n ≡ 8 + 8 * n = omega arith in
+    let more : 2 ^ (8 + 8 * n) ≡ 2 ^ 8 * 2 ^ (8 * n) = pow-add 2 8 (8 * n) in
+    let whole : rest * 2 ^ (8 * suc n) + (f n * 2 ^ (8 * n) + d) ≡ top * 2 ^ (8 * n) + d =
+    rw longer (omega (arith, ap (λ (x : ℕ). rest * x) more)) in
+    let here : byte_at n (top * 2 ^ (8 * n) + d) ≡ f n =
+    byte_at-is n (top * 2 ^ (8 * n) + d) ∙ ap (λ (x : ℕ). x % 256) (div-mul-add top (2 ^ (8 * n)) d (digits-lt n f small)) ∙ omega (arith, small n) in
+    rw whole (λ t. here t ∷ high_first-digits n top f small t)
+
+-- a list of 16 is its 16 elements
+listed-all : (v : List ℕ) → length v ≡ 16 → listed 16 (λ i. get_or v (15 - i) 0) ≡ v
+unfolding listed
+listed-all v long = sym (fill_by_all (λ i. get_or v i 0) v 16 0 long (λ i below. refl))
+
+pub bytes-number_of : (v : List ℕ) → length v ≡ 16 → ((k : ℕ) → get_or v k 0 < 256) → to_be_bytes w128 (number_of v) ≡ v
+bytes-number_of v long small =
+    let d : ℕ = digits 16 (λ i. get_or v (15 - i) 0) in
+    let whole : number_of v ≡ 0 * 2 ^ (8 * 16) + d = number_of-digits v ∙ omega arith in
+    ap (bytes_high_first 16) whole
+    ∙ high_first-digits 16 0 (λ i. get_or v (15 - i) 0) (λ i. small (15 - i))
+    ∙ listed-all v long

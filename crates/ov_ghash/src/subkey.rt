@@ -9,6 +9,7 @@ ghost use Rattle.std.specs.Simd.Lanes.{Each1};
 ghost use Rattle.ov_ghash.specs.Block.{bits, number_of, ghash};
 ghost use Rattle.ov_ghash.specs.Turn.{horner, products, turns};
 ghost use Rattle.ov_ghash.specs.Rows.{rows};
+ghost use Rattle.ov_ghash.specs.Parts.{part_kept, part_passed};
 ghost use Rattle.ov_ghash.specs.Ghash.{IsPrepared, prepared};
 
 use crate::table::{products_of, turned_by_four};
@@ -108,12 +109,29 @@ fn moved(before: u8x16, v: u8x16) -> u8x16
     )
 }
 
-// The remainder of a polynomial of degree below 248, of which `low` has the coefficients from x^128 on.
-fn reduced(high: u128, low: u128) -> u128
-    requires { low % 2 ^ 8 ≡ 0 }
-    ensures { result ≡ bit_xor high (turns 128 low) }
+// What bytes past x^128 add to the bytes at their own places.
+#[inline(always)]
+fn parts_kept(low: u8x16) -> u8x16
+    ensures { result ≡ map part_kept low }
 {
-    high ^ low ^ (low >> 1) ^ (low >> 2) ^ (low >> 7)
+    low ^ (low >> 1) ^ (low >> 2) ^ (low >> 7)
+}
+
+// What they add to the bytes one place on.
+#[inline(always)]
+fn parts_passed(low: u8x16) -> u8x16
+    ensures { result ≡ map part_passed low }
+{
+    (low << 7) ^ (low << 6) ^ (low << 1)
+}
+
+// The remainder of a polynomial of degree below 248, of which `low` has the coefficients from x^128 on.
+#[inline(always)]
+fn reduced(high: u8x16, low: u8x16) -> u8x16
+    requires { slice_index low 15 ≡ 0 }
+    ensures { number_of result ≡ bit_xor (number_of high) (turns 128 (number_of low)) }
+{
+    high ^ parts_kept(low) ^ moved(u8x16::splat(0), parts_passed(low))
 }
 
 impl HashKey {
@@ -130,13 +148,13 @@ impl HashKey {
     }
 
     // The product of a block with the subkey, row by row.
-    fn multiplied(&self, block: [u8; 16]) -> u128
+    #[inline(always)]
+    fn multiplied(&self, block: u8x16) -> u8x16
         ensures { (h : List ℕ) → IsPrepared self.now h →
-            result ≡ horner (bits 128 (number_of block)) (number_of h) }
+            number_of result ≡ horner (bits 128 (number_of block)) (number_of h) }
     {
-        let bytes = u8x16::from_array(block);
-        let firsts = first_halves(bytes);
-        let seconds = second_halves(bytes);
+        let firsts = first_halves(block);
+        let seconds = second_halves(block);
         let mut high = u8x16::splat(0);
         let mut low = u8x16::splat(0);
         'each: for place in 0..16 {
@@ -146,7 +164,7 @@ impl HashKey {
             high = row ^ moved(u8x16::splat(0), high);
             low = next;
         }
-        reduced(number(high.to_array()), number(low.to_array()))
+        reduced(high, low)
     }
 
     /// GHASH of blocks and one block more, of which `sum` is GHASH of those before: 16 zero bytes where
@@ -157,6 +175,6 @@ impl HashKey {
             ghash h xs ≡ sum → ghash h (xs ++ block ∷ []) ≡ result }
     {
         let text = u8x16::from_array(sum) ^ u8x16::from_array(block);
-        self.multiplied(text.to_array()).to_be_bytes()
+        self.multiplied(text).to_array()
     }
 }

@@ -4,7 +4,4 @@ use Rattle.ov_gcm.specs.Steps.{IsCryptedUpTo}
 use Rattle.ov_gcm.proofs.stream.crypt.Given as goal
 
 abbrev pub invariant-loop-turn : goal.invariant-loop-turn
-invariant-loop-turn l = IsCryptedUpTo (key_list l.key) l.nonce l.fn.text (4 * l.turn) l.text
-
-abbrev pub invariant-loop-i : goal.invariant-loop-i
-invariant-loop-i l = IsCryptedUpTo (key_list l.key) l.nonce l.fn.text l.i l.text
+invariant-loop-turn l = IsCryptedUpTo (key_list l.key) l.nonce l.fn.text (2 * l.turn) l.text

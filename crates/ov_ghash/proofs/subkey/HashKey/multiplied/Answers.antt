@@ -1,11 +1,11 @@
-use Rattle.std.proofs.Common.{◌≡◌, ℕ, ◌+◌, ◌*◌, ◌%◌, ◌<◌, List, length, get_or, bit_xor, refl, sym, ap, ap₂, ◌∙◌, arith, rules}
+use Rattle.std.proofs.Common.{◌≡◌, ℕ, ◌+◌, ◌*◌, List, length, get_or, bit_xor, refl, sym, ap, ap₂, ◌∙◌, arith, rules}
 use lib.Lanes.{zip2}
 use Rattle.std.proofs.lemmas.Simd.{get_or-zip2, length-zip2}
 use Rattle.ov_ghash.specs.Block.{number_of}
 use Rattle.ov_ghash.specs.Turn.{turn, turns}
 use Rattle.ov_ghash.specs.Ghash.{IsPrepared, prepared}
 use Rattle.ov_ghash.proofs.ByBytes.{by_bytes, by_bytes-more}
-use Rattle.ov_ghash.proofs.RowFacts.{vector, row_of, row-more, rows-byte, rows-all, vector-row, number_of-vector, number_of-last, bytes_small, zeros, zeros-more}
+use Rattle.ov_ghash.proofs.RowFacts.{vector, row_of, row-more, rows-byte, rows-all, vector-row, number_of-vector, bytes_small, zeros, zeros-more}
 use Rattle.ov_ghash.proofs.subkey.HashKey.multiplied.Goals as goal
 
 pub each-init : goal.each-init
@@ -39,7 +39,7 @@ each-preserved c =
           ∙ ap₂ (λ (a b : ℕ). bit_xor a (turns 8 b))
           (vector-row k place block row
           (λ i below.
-          let small : get_or block i 0 < 256 = search rules in
+          let small = bytes_small block c.fits-block.1 i in
           get_or-zip2 bit_xor first second i 0 0 0 (omega (arith, long_first)) (omega (arith, long_second))
           ∙ ap₂ bit_xor
           (c.looked_up.ensures i below ∙ (λ t. get_or ((prepared_is t).first) (16 * place + c.first_halves-firsts.ensures.halves i below t) 0))
@@ -50,19 +50,16 @@ each-preserved c =
     }
 
 pub reduced-requires : goal.reduced-requires
-reduced-requires c =
-    let none : get_or c.each.low 15 0 ≡ 0 = c.each.invariant.zeros 15 (omega arith) in
-    ap (λ (n : ℕ). n % 256) c.number-2.ensures ∙ number_of-last c.each.low none
+reduced-requires c = c.each.invariant.zeros 15 (omega arith)
 
 pub returns : goal.returns
 unfolding IsPrepared
 returns c = λ h is.
     let all : c.each.place ≡ 16 = omega arith in
-    let small : (k : ℕ) → get_or c.args.block k 0 < 256 = search rules in
     c.reduced.ensures
     ∙ ap₂ (λ (a b : ℕ). bit_xor a (turns 128 b))
-    (c.number.ensures ∙ number_of-vector c.each.high (bytes_small c.each.high c.each.auto.high.1))
-    (c.number-2.ensures ∙ number_of-vector c.each.low (bytes_small c.each.low c.each.auto.low.1))
+    (number_of-vector c.each.high (bytes_small c.each.high c.each.auto.high.1))
+    (number_of-vector c.each.low (bytes_small c.each.low c.each.auto.low.1))
     ∙ c.each.invariant.done h is
     ∙ ap (λ (n : ℕ). by_bytes n (row_of (number_of h) c.args.block)) all
-    ∙ rows-all (number_of h) c.args.block is.0 small
+    ∙ rows-all (number_of h) c.args.block is.0 (bytes_small c.args.block c.fits-block.1)
