@@ -6,6 +6,7 @@ use crate::{BadTag, GcmKey};
 use cases::{COUNT, DIGESTS, LENGTHS, TAGS};
 use ov_aes::KeyBytes;
 use sha2::{Digest, Sha256};
+use std::alloc::Global;
 use std::process::Abort;
 use std::test::Fail;
 
@@ -69,6 +70,63 @@ fn cases_of_another_implementation(rt: HostRuntime) -> Result<(), Fail> {
         let key = GcmKey::new(&KeyBytes::of(&key[..key_length])?);
         seal_and_unseal(&rt, n, &key, nonce, &ad[..ad_length], &mut text);
         assert_eq!(rt; text, plain, "the text of case {n}");
+    }
+    Ok(())
+}
+
+/// The bytes of a key, and the first half of the SHA-256 digest of what the same package seals under such keys:
+/// of every length from 0 to 520 bytes the ciphertext and its tag, one behind the other. The bytes are drawn
+/// as those of the cases, from the length plus one, with as many bytes of associated data as the length
+/// leaves modulo 21. `tools/vectors digests` prints the digests.
+const SEALED: [(usize, u128); 3] = [
+    (16, 0x61641f1c41a63a0b4ce15aa699bfcc05),
+    (24, 0x19953f9beaed44d1019827a42805153c),
+    (32, 0xd0985059b6eb7df75dce04f2c5e7b172),
+];
+
+/// Seals a text of `length` bytes, appends it and its tag to `all`, and unseals it again.
+fn seal_behind(
+    rt: &impl Abort,
+    alloc: Global,
+    all: &mut Vec<u8>,
+    key_length: usize,
+    length: usize,
+) -> Result<(), Fail>
+    requires { length ≤ 520 }
+{
+    let mut draw = Draw {
+        x: length as u32 + 1,
+    };
+    let mut key = [0; 32];
+    let key_length = key_length.min(32);
+    draw.fill(&mut key[..key_length]);
+    let mut nonce = [0; 12];
+    draw.fill(&mut nonce);
+    let mut ad = [0; 20];
+    draw.fill(&mut ad[..length % 21]);
+    let mut text = vec![in alloc; 0u8; length]?;
+    draw.fill(&mut text);
+    let plain = text.clone()?;
+    let key = GcmKey::new(&KeyBytes::of(&key[..key_length])?);
+    let tag = key.seal(nonce, &ad[..length % 21], &mut text);
+    all.extend_from_slice(&text)?;
+    all.extend_from_slice(&tag)?;
+    assert!(rt;
+        key.unseal(nonce, &ad[..length % 21], &mut text, tag)
+            .is_ok()
+    );
+    assert_eq!(rt; text, plain, "the text of {length} bytes");
+    Ok(())
+}
+
+#[test]
+fn every_length_up_to_520(rt: HostRuntime) -> Result<(), Fail> {
+    for (key_length, expected) in SEALED {
+        let mut all = Vec::new(rt.alloc());
+        for length in 0..521 {
+            seal_behind(&rt, rt.alloc(), &mut all, key_length, length)?;
+        }
+        assert_eq!(rt; digest_half(&all), expected, "keys of {key_length} bytes");
     }
     Ok(())
 }
