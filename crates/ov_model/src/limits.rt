@@ -1,5 +1,11 @@
 //! The numbers of the wire and of a session, for code: each is the one of specs/Limits, which clauses cite.
 
+/// How many peers a session may make.
+pub const MOST_PEERS: u32 = 4096;
+
+/// How many keys a session may make.
+pub const MOST_KEYS: u32 = 65536;
+
 /// The bytes of a data packet's head.
 pub const HEAD_BYTES: usize = 8;
 
