@@ -70,7 +70,7 @@ abbrev pub LinesRise : ℕ → List ReplayEntry → Type 0
 LinesRise lane [] = Unit {0}
 LinesRise lane (r ∷ rs) = (r.place.lane ≡ lane → AllByRecursion (λ later. later.place.lane ≡ lane → r.place.line < later.place.line) rs) × LinesRise lane rs
 
--- Replay shards: there are as many as there must be; each step stands in the shard of its key and has the moment and the
+-- Replay shards: there are shard_count of them; each step stands in the shard of its key and has the moment and the
 -- verdict that the earlier steps of its key give it; its lane exists (LaneMeets says that its line does);
 -- and in each lane the line numbers rise along the shard.
 pub record ShardsJudge (report : Report) : Type 0 where

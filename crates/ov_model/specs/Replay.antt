@@ -27,7 +27,7 @@ abbrev pub has_items : List Accepted → Bool
 has_items [] = false
 has_items (a ∷ l) = true
 
--- The longest prefix that is followed by a gap: so many quiet seconds or more from its last accept to the next moment.
+-- The longest prefix that is followed by a gap: quiet_seconds or more from its last accept to the next moment.
 unfoldable pub before_gap : List Accepted → ℕ → List Accepted
 before_gap [] m = []
 before_gap (a ∷ l) m =

@@ -83,7 +83,8 @@ fn key_id(first: u8) -> KeyId
 /// The 8 bytes of a head, which are the associated data of the datagram's seal. With any 16 or more bytes
 /// behind them they read as that head (`laws::head_reads_back`).
 pub fn write_head(head: &Head) -> [u8; HEAD_BYTES]
-    ensures bytes { result ≡ head_bytes head.now.id.number head.now.key_id.number head.now.packet_id }
+    ensures bytes { result ≡
+        head_bytes head.now.id.number head.now.key_id.number head.now.packet_id }
 {
     let mut bytes = [0; HEAD_BYTES];
     bytes[0] = DATA_V2 * KEY_IDS + head.key_id.get();

@@ -49,7 +49,8 @@ impl Marks {
 
     /// Takes the marks from the 64 places that share a word with the place of `id`.
     pub(crate) fn clear_word(&mut self, id: u32)
-        ensures cleared { (other : ℕ) → other % window_places / 64 ≡ id % window_places / 64 → is_marked self.new other ≡ false }
+        ensures cleared { (other : ℕ) → other % window_places / 64 ≡ id % window_places / 64
+            → is_marked self.new other ≡ false }
         ensures others { (other : ℕ) → other % window_places / 64 ≢ id % window_places / 64
             → is_marked self.new other ≡ is_marked self.old other }
     {

@@ -57,7 +57,9 @@ impl Shard {
         ensures verdict { IfOk result (λ verdict.
             verdict ≡ (judged self.old.entries place key id at).verdict) }
         ensures ok { OnOk result (self.new
-            ≡ record self.old { entries = self.old.entries ++ judged self.old.entries place key id at ∷ [] }) }
+            ≡ record self.old {
+              entries = self.old.entries ++ judged self.old.entries place key id at ∷ [];
+            }) }
 
         // Want of memory changes nothing, neither the window nor its moment.
         ensures err { OnErr result (self.new ≡ self.old) }
@@ -94,7 +96,8 @@ impl Shard {
 
 /// The window of a key, a new one where it has none.
 fn window_of(windows: &BTreeMap<u32, Window>, key: u32) -> Window
-    ensures { MatchOption (get nat_cmp windows.now key) (Stands result [] 0) (λ window. result ≡ window) }
+    ensures { MatchOption (get nat_cmp windows.now key) (Stands result [] 0)
+        (λ window. result ≡ window) }
 {
     match windows.get(&key) {
         Some(window) => *window,

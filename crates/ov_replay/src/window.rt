@@ -60,7 +60,8 @@ impl Window {
 
         // Afterwards the window stands for the list with what the verdict adds, at the later moment.
         ensures stands { (l : List Accepted) (m : ℕ) → Stands self.old l m
-            → let now = max m at in Stands self.new (l ++ accepted_by (verdict_of l id now) id now) now }
+            → let now = max m at in
+            Stands self.new (l ++ accepted_by (verdict_of l id now) id now) now }
 
         ensures memory { IsOk result }
     {
