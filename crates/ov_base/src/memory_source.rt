@@ -57,7 +57,8 @@ impl Source for MemorySource {
     fn read(&mut self, buf: &mut [u8]) -> Got
         requires { 0 < length buf.old }
         ensures fits { GotFits result buf.new }
-        ensures bytes { ReadTakes (Some self.old.steady.left) (Some self.new.steady.left) result buf.new }
+        ensures bytes { ReadTakes (Some self.old.steady.left) (Some self.new.steady.left) result
+            buf.new }
         ensures cause { GotCause self.old.failures.faults self.new.failures.faults result }
         ensures answer { result ≡ got_of self.old (length buf.old) }
         ensures after { self.new ≡ source_after self.old result }

@@ -1,8 +1,8 @@
 -- What threads that append entries to one history have done.
 use Rattle.std.specs.Prelude.{◌≡◌, ℕ, ◌+◌, ◌≤◌, List, [], ◌∷◌, ◌++◌, length}
 use Rattle.ov_turn.specs.declared.kept.Kept.{Ghosts}
-use Rattle.ov_turn.specs.declared.turn.Turn.{Turn}
-use Rattle.ov_turn.specs.declared.turn.TurnSeat.{TurnSeat}
+use Rattle.ov_turn.specs.declared.lock.TicketLock.{TicketLock}
+use Rattle.ov_turn.specs.declared.lock.LockSeat.{LockSeat}
 use Rattle.ov_turn.specs.Seats.{IsSeatOf, share_of, seen_of, own_of, holds_of, owes_of}
 use Rattle.ov_turn.specs.Lists.{IsWhole}
 use Rattle.ov_clients.specs.declared.journal.Entry.{Entry}
@@ -18,8 +18,8 @@ AreBoth log first second = (length log ≡ first + second) × ((own other : List
 
 module _ {S : Type 0} {K : Ghosts S Entry} where
   -- a seat that has appended so many entries of a thread, and holds and owes nothing
-  pub record HasAppended (turn : Turn S Entry) (part thread count : ℕ) (seat : TurnSeat S Entry K) : Type 0 where
-    pub of : IsSeatOf turn seat
+  pub record HasAppended (lock : TicketLock S Entry) (part thread count : ℕ) (seat : LockSeat S Entry K) : Type 0 where
+    pub of : IsSeatOf lock seat
     pub share : share_of seat ≡ part
     pub holds : holds_of seat ≡ []
     pub owes : owes_of seat ≡ []

@@ -4,8 +4,8 @@ use Rattle.ov_base.specs.Sums.{count_of}
 use Rattle.ov_model.specs.declared.hold.Given.{Given}
 use Rattle.ov_model.specs.declared.hold.Given.TheVariants.{More, Last}
 use Rattle.ov_turn.specs.declared.kept.Kept.{Ghosts}
-use Rattle.ov_turn.specs.declared.turn.Turn.{Turn}
-use Rattle.ov_turn.specs.declared.turn.TurnSeat.{TurnSeat}
+use Rattle.ov_turn.specs.declared.lock.TicketLock.{TicketLock}
+use Rattle.ov_turn.specs.declared.lock.LockSeat.{LockSeat}
 use Rattle.ov_turn.specs.Seats.{IsSeatOf, cells_of, holds_of, owes_of}
 use Rattle.ov_clients.specs.declared.stage.Deed.{Deed}
 use Rattle.ov_clients.specs.declared.stage.Deed.TheVariants.{Made, Ended}
@@ -36,9 +36,9 @@ IsOneLast one two = ((one ≡ Last) × (two ≡ More)) ⊎ ((one ≡ More) × (t
 
 module _ {S I : Type 0} {K : Ghosts S I} where
   -- a seat of a lock with one cell, that holds these cells, none but the cell 0, and owes nothing
-  pub record Keeps (turn : Turn S I) (seat : TurnSeat S I K) (held : List ℕ) : Type 0 where
-    pub of : IsSeatOf turn seat
-    pub cells : cells_of turn ≡ 1
+  pub record Keeps (lock : TicketLock S I) (seat : LockSeat S I K) (held : List ℕ) : Type 0 where
+    pub of : IsSeatOf lock seat
+    pub cells : cells_of lock ≡ 1
     pub holds : holds_of seat ≡ held
     pub only : (c : ℕ) → c ≢ 0 → count_of c held ≡ 0
     pub owes : owes_of seat ≡ []

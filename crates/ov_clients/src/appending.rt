@@ -5,7 +5,7 @@ ghost use Rattle.ov_clients.specs.Entries.{HasAppended, AreBoth};
 
 use crate::journal::{Entry, Journal};
 use ov_base::{ListOf, Memory};
-use ov_turn::{Turn, TurnSeat};
+use ov_turn::{LockSeat, TicketLock};
 use std::alloc::Global;
 use std::sync::Wait;
 use std::thread::{Threads, join};
@@ -14,15 +14,15 @@ use std::thread::{Threads, join};
 /// says `false`.
 fn append_one<R: Wait>(
     rt: &R,
-    turn: &Turn<Journal>,
-    seat: TurnSeat<Journal>,
+    lock: &TicketLock<Journal>,
+    seat: LockSeat<Journal>,
     thread: u32,
     number: u32,
-) -> (TurnSeat<Journal>, bool)
-    requires { HasAppended turn.now (share_of seat) thread number seat }
-    ensures { HasAppended turn.entry.now (share_of seat) thread (if result.1 then number + 1 else number) result.0 }
+) -> (LockSeat<Journal>, bool)
+    requires { HasAppended lock.now (share_of seat) thread number seat }
+    ensures { HasAppended lock.entry.now (share_of seat) thread (if result.1 then number + 1 else number) result.0 }
 {
-    let mut inside = turn.enter(rt, seat);
+    let mut inside = lock.enter(rt, seat);
     let added = inside.kept().add(Entry { thread, number });
     if added {
         inside.append();
@@ -33,16 +33,16 @@ fn append_one<R: Wait>(
 /// Appends up to `count` entries of a thread, and says how many it has appended. It stops at the first for which there is no memory.
 fn append_many<R: Wait>(
     rt: &R,
-    turn: &Turn<Journal>,
-    mut seat: TurnSeat<Journal>,
+    lock: &TicketLock<Journal>,
+    mut seat: LockSeat<Journal>,
     thread: u32,
     count: u32,
-) -> (TurnSeat<Journal>, u32)
-    requires { HasAppended turn.now (share_of seat) thread 0 seat }
-    ensures { HasAppended turn.entry.now (share_of seat) thread result.1 result.0 }
+) -> (LockSeat<Journal>, u32)
+    requires { HasAppended lock.now (share_of seat) thread 0 seat }
+    ensures { HasAppended lock.entry.now (share_of seat) thread result.1 result.0 }
 {
     for number in 0..count {
-        let (next, added) = append_one(rt, turn, seat, thread, number);
+        let (next, added) = append_one(rt, lock, seat, thread, number);
         seat = next;
         if !added {
             return (seat, number);
@@ -62,23 +62,23 @@ pub fn append_on_two_threads<R: Threads + Wait + Sync>(
 ) -> Result<(ListOf<Entry>, u32, u32), Memory>
     ensures { IfOk result (λ r. AreBoth r.0 r.1 r.2) }
 {
-    let Ok((turn, seat)) = Turn::new(alloc, Journal::new(alloc), 0) else {
+    let Ok((lock, seat)) = TicketLock::new(alloc, Journal::new(alloc), 0) else {
         return Err(Memory);
     };
-    let (one, two) = turn.split(seat);
-    let lock = &turn;
+    let (one, two) = lock.split(seat);
+    let shared = &lock;
     let ((one, first), (two, second)) = join(
         rt,
-        move || -> (TurnSeat<Journal>, u32)
-            requires { HasAppended lock.now (share_of one) 1 0 one }
-            ensures { HasAppended lock.entry.now (share_of one) 1 result.1 result.0 }
-        { append_many(rt, lock, one, 1, count) },
-        move || -> (TurnSeat<Journal>, u32)
-            requires { HasAppended lock.now (share_of two) 2 0 two }
-            ensures { HasAppended lock.entry.now (share_of two) 2 result.1 result.0 }
-        { append_many(rt, lock, two, 2, count) },
+        move || -> (LockSeat<Journal>, u32)
+            requires { HasAppended shared.now (share_of one) 1 0 one }
+            ensures { HasAppended shared.entry.now (share_of one) 1 result.1 result.0 }
+        { append_many(rt, shared, one, 1, count) },
+        move || -> (LockSeat<Journal>, u32)
+            requires { HasAppended shared.now (share_of two) 2 0 two }
+            ensures { HasAppended shared.entry.now (share_of two) 2 result.1 result.0 }
+        { append_many(rt, shared, two, 2, count) },
     );
-    let seat = turn.join(one, two);
-    let journal = turn.close(seat);
+    let seat = lock.join(one, two);
+    let journal = lock.close(seat);
     Ok((journal.into_entries(), first, second))
 }

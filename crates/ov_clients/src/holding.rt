@@ -9,7 +9,7 @@ use crate::stage::Stage;
 use ov_base::Memory;
 use ov_hold::{Held, get, give_back, link, unlink};
 use ov_model::Given;
-use ov_turn::{Turn, TurnSeat};
+use ov_turn::{LockSeat, TicketLock};
 use std::alloc::Global;
 use std::sync::Wait;
 use std::thread::{Threads, join};
@@ -18,12 +18,12 @@ use std::thread::{Threads, join};
 const CELL: u32 = 0;
 
 /// Makes the thing and links its cell, where it isn't there yet.
-fn make<R: Wait>(rt: &R, turn: &Turn<Stage>, seat: TurnSeat<Stage>) -> TurnSeat<Stage>
-    requires { Keeps turn.now seat [] }
-    ensures keeps { Keeps turn.entry.now result [] }
+fn make<R: Wait>(rt: &R, lock: &TicketLock<Stage>, seat: LockSeat<Stage>) -> LockSeat<Stage>
+    requires { Keeps lock.now seat [] }
+    ensures keeps { Keeps lock.entry.now result [] }
     ensures share { share_of result ≡ share_of seat }
 {
-    let mut inside = turn.enter(rt, seat);
+    let mut inside = lock.enter(rt, seat);
     if !inside.kept().make() {
         return inside.leave();
     }
@@ -35,16 +35,16 @@ fn make<R: Wait>(rt: &R, turn: &Turn<Stage>, seat: TurnSeat<Stage>) -> TurnSeat<
 /// Gets a hold on the thing, where it is live.
 fn hold<R: Wait>(
     rt: &R,
-    turn: &Turn<Stage>,
-    seat: TurnSeat<Stage>,
+    lock: &TicketLock<Stage>,
+    seat: LockSeat<Stage>,
     held: &mut Held,
-) -> TurnSeat<Stage>
-    requires keeps { Keeps turn.now seat held.old }
+) -> LockSeat<Stage>
+    requires keeps { Keeps lock.now seat held.old }
     requires none { held.old ≡ [] }
-    ensures keeps { Keeps turn.entry.now result held.new }
+    ensures keeps { Keeps lock.entry.now result held.new }
     ensures share { share_of result ≡ share_of seat }
 {
-    let mut inside = turn.enter(rt, seat);
+    let mut inside = lock.enter(rt, seat);
     if !inside.kept().is_live() {
         return inside.leave();
     }
@@ -53,15 +53,20 @@ fn hold<R: Wait>(
 }
 
 /// Ends the thing and unlinks its cell, where the seat holds it.
-fn end<R: Wait>(rt: &R, turn: &Turn<Stage>, seat: TurnSeat<Stage>, held: &Held) -> TurnSeat<Stage>
-    requires { Keeps turn.now seat held.now }
-    ensures keeps { Keeps turn.entry.now result held.entry.now }
+fn end<R: Wait>(
+    rt: &R,
+    lock: &TicketLock<Stage>,
+    seat: LockSeat<Stage>,
+    held: &Held,
+) -> LockSeat<Stage>
+    requires { Keeps lock.now seat held.now }
+    ensures keeps { Keeps lock.entry.now result held.entry.now }
     ensures share { share_of result ≡ share_of seat }
 {
     if !held.has(CELL) {
         return seat;
     }
-    let mut inside = turn.enter(rt, seat);
+    let mut inside = lock.enter(rt, seat);
     if !inside.kept().end() {
         return inside.leave();
     }
@@ -72,12 +77,12 @@ fn end<R: Wait>(rt: &R, turn: &Turn<Stage>, seat: TurnSeat<Stage>, held: &Held) 
 
 /// Gives the hold back, where the seat has one. It waits for nobody.
 fn release(
-    turn: &Turn<Stage>,
-    mut seat: TurnSeat<Stage>,
+    lock: &TicketLock<Stage>,
+    mut seat: LockSeat<Stage>,
     mut held: Held,
-) -> (TurnSeat<Stage>, Given)
-    requires { Keeps turn.now seat held }
-    ensures turn { IsSeatOf turn.entry.now result.0 }
+) -> (LockSeat<Stage>, Given)
+    requires { Keeps lock.now seat held }
+    ensures lock { IsSeatOf lock.entry.now result.0 }
     ensures share { share_of result.0 ≡ share_of seat }
     ensures holds { holds_of result.0 ≡ without 0 held }
     ensures owes { Owes result.1 0 [] (owes_of result.0) }
@@ -85,7 +90,7 @@ fn release(
     if !held.has(CELL) {
         return (seat, Given::More);
     }
-    let given = give_back(turn, &mut seat, &mut held, CELL);
+    let given = give_back(lock, &mut seat, &mut held, CELL);
     (seat, given)
 }
 
@@ -101,36 +106,36 @@ pub fn hold_on_two_threads<R: Threads + Wait + Sync>(
 ) -> Result<Option<(Given, Given)>, Memory>
     ensures { IfOk result (λ r. IfSome r (λ told. IsOneLast told.0 told.1)) }
 {
-    let Ok((turn, seat)) = Turn::new(alloc, Stage::Unmade, 1) else {
+    let Ok((lock, seat)) = TicketLock::new(alloc, Stage::Unmade, 1) else {
         return Err(Memory);
     };
-    let (one, two) = turn.split(seat);
+    let (one, two) = lock.split(seat);
     let mut first = Held::new();
     let mut second = Held::new();
-    let one = make(rt, &turn, one);
-    let one = hold(rt, &turn, one, &mut first);
-    let two = hold(rt, &turn, two, &mut second);
-    let one = end(rt, &turn, one, &first);
-    let lock = &turn;
+    let one = make(rt, &lock, one);
+    let one = hold(rt, &lock, one, &mut first);
+    let two = hold(rt, &lock, two, &mut second);
+    let one = end(rt, &lock, one, &first);
+    let shared = &lock;
     let ((one, told), (two, also)) = join(
         rt,
-        move || -> (TurnSeat<Stage>, Given)
-            requires { Keeps lock.now one first }
-            ensures turn { IsSeatOf lock.entry.now result.0 }
+        move || -> (LockSeat<Stage>, Given)
+            requires { Keeps shared.now one first }
+            ensures lock { IsSeatOf shared.entry.now result.0 }
             ensures share { share_of result.0 ≡ share_of one }
             ensures holds { holds_of result.0 ≡ without 0 first }
             ensures owes { Owes result.1 0 [] (owes_of result.0) }
-        { release(lock, one, first) },
-        move || -> (TurnSeat<Stage>, Given)
-            requires { Keeps lock.now two second }
-            ensures turn { IsSeatOf lock.entry.now result.0 }
+        { release(shared, one, first) },
+        move || -> (LockSeat<Stage>, Given)
+            requires { Keeps shared.now two second }
+            ensures lock { IsSeatOf shared.entry.now result.0 }
             ensures share { share_of result.0 ≡ share_of two }
             ensures holds { holds_of result.0 ≡ without 0 second }
             ensures owes { Owes result.1 0 [] (owes_of result.0) }
-        { release(lock, two, second) },
+        { release(shared, two, second) },
     );
-    let seat = turn.join(one, two);
-    match turn.close(seat) {
+    let seat = lock.join(one, two);
+    match lock.close(seat) {
         Stage::Dying => Ok(Some((told, also))),
         Stage::Unmade => Ok(None),
         Stage::Live => Ok(None),

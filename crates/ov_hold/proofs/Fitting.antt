@@ -6,14 +6,14 @@ use mathlib.Core.Logic.{dite}
 use native.Mathlib.Decide.{ℕ_discrete}
 use Rattle.std.proofs.lemmas.Bool.{lt-ltb}
 use Rattle.ov_base.specs.Sums.{count_of}
-use Rattle.ov_turn.specs.declared.place.Place.{Place}
+use Rattle.ov_turn.specs.declared.view.View.{View}
 use Rattle.ov_turn.specs.Lists.{has, without, all_below}
-use Rattle.ov_turn.specs.Places.{holds_fit, lists_fit}
+use Rattle.ov_turn.specs.Views.{holds_fit, lists_fit}
 use Rattle.ov_turn.specs.Steps.{holding}
 use Rattle.ov_hold.specs.Holds.{AreHeld}
 use Rattle.ov_turn.proofs.Members.{both_true, true_both, has_counted, without_has, others_has, others_count, count_snoc_here, count_snoc_other, below_has, below_append, below_filter}
 
-module _ {I : Type 0} (v : Place I) (d : ℕ) where
+module _ {I : Type 0} (v : View I) (d : ℕ) where
   pub held_small : holds_fit v ≡ true → 0 < count_of d v.holds → d < v.cells
   held_small fit h = let one = has_counted d v.holds h in below_has v.cells d v.holds fit (omega arith)
 

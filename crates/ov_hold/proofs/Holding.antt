@@ -7,9 +7,9 @@ use lib.ListN.{get_elem?}
 use Rattle.atomic_table.specs.Table.{State, Me, step, keeps, Allows}
 use Rattle.ov_base.specs.Sums.{total, count_of}
 use Rattle.ov_base.proofs.Sums.{total_set, total_le, part_le}
-use Rattle.ov_turn.specs.declared.place.Place.{Place}
+use Rattle.ov_turn.specs.declared.view.View.{View}
 use Rattle.ov_turn.specs.Lists.{has, without}
-use Rattle.ov_turn.specs.Places.{Lists, share, is_inside, holds, owes, holds_fit, lists_fit}
+use Rattle.ov_turn.specs.Views.{Lists, share, is_inside, holds, owes, holds_fit, lists_fit}
 use Rattle.ov_turn.specs.HoldRule.{AreCells}
 use Rattle.ov_turn.specs.Steps.{holding}
 use Rattle.ov_turn.specs.Cells.{stays_inside, stays_outside}
@@ -38,14 +38,14 @@ once_less d held once c =
 
 module _ {S I : Type 0} (history : S → List I) (live dying : S → List ℕ) (count : ℕ) where
   abbrev M : Type 0
-  M = Me S (Place I)
+  M = Me S (View I)
 
-  abbrev R : State S (Place I) → Type 0
+  abbrev R : State S (View I) → Type 0
   R = T history live dying count
 
   -- the seat inside is the only one that knows which cells there are
-  nobody_else : (s : State S (Place I)) (r : R s) (id : ℕ) (v : Place I) → get_elem? s.views id ≡ some v → v.queued ≡ true → v.inside ≡ true → (l : Lists)
-      → (total is_inside s.views ≡ 0 → l ≡ r.lists) × ((j : ℕ) (u : Place I) → j ≢ id → get_elem? s.views j ≡ some u → u.inside ≡ true → l ≡ r.lists)
+  nobody_else : (s : State S (View I)) (r : R s) (id : ℕ) (v : View I) → get_elem? s.views id ≡ some v → v.queued ≡ true → v.inside ≡ true → (l : Lists)
+      → (total is_inside s.views ≡ 0 → l ≡ r.lists) × ((j : ℕ) (u : View I) → j ≢ id → get_elem? s.views j ≡ some u → u.inside ≡ true → l ≡ r.lists)
   nobody_else s r id v at q here l =
       let known = (r.each id v at).inside here in
       let one = ticket_yes r.served v q known.1 in (

@@ -9,7 +9,7 @@ ghost use Rattle.ov_hold.specs.Holds.{Owes, AreHeld};
 use crate::held::Held;
 use crate::steps::{Get, GiveBack, Link, Unlink};
 use ov_model::Given;
-use ov_turn::{Inside, Kept, Turn, TurnSeat, cells};
+use ov_turn::{Inside, Kept, LockSeat, TicketLock, cells};
 
 /// Links a cell that is left to link: its word becomes 1 from 0.
 pub fn link<S: Kept>(inside: &mut Inside<'_, S>, cell: u32)
@@ -60,15 +60,15 @@ pub fn get<S: Kept>(inside: &mut Inside<'_, S>, held: &mut Held, cell: u32)
 /// Gives a hold back: the cell's word becomes two less. `Last` where that is 0: the seat owes the
 /// cell's release then, and no other seat does.
 pub fn give_back<S: Kept>(
-    turn: &Turn<S>,
-    seat: &mut TurnSeat<S>,
+    lock: &TicketLock<S>,
+    seat: &mut LockSeat<S>,
     held: &mut Held,
     cell: u32,
 ) -> Given
-    requires seat { IsSeatOf turn.now seat.old }
+    requires seat { IsSeatOf lock.now seat.old }
     requires has { has cell held.old ≡ 1 }
     requires holds { 0 < count_of cell (holds_of seat.old) }
-    ensures turn { IsSeatOf turn.entry.now seat.new }
+    ensures lock { IsSeatOf lock.entry.now seat.new }
     ensures share { share_of seat.new ≡ share_of seat.old }
     ensures seen { seen_of seat.new ≡ seen_of seat.old }
     ensures own { own_of seat.new ≡ own_of seat.old }
@@ -77,7 +77,7 @@ pub fn give_back<S: Kept>(
     ensures held { held.new ≡ without cell held.old }
     ensures goes { AreHeld held.old (holds_of seat.old) → AreHeld held.new (holds_of seat.new) }
 {
-    let found = cells::sub_outside::<S, GiveBack>(turn, seat, cell, 2);
+    let found = cells::sub_outside::<S, GiveBack>(lock, seat, cell, 2);
     held.remove(cell);
     given(found == 2)
 }

@@ -4,7 +4,7 @@ ghost use Rattle.ov_turn.specs.Seats.{IsSeatOf, cells_of, share_of, holds_of};
 
 use crate::{Held, get, give_back, link, unlink};
 use ov_model::Given;
-use ov_turn::{Kept, Turn, TurnSeat};
+use ov_turn::{Kept, LockSeat, TicketLock};
 use std::sync::Wait;
 use std::test::Fail;
 
@@ -68,15 +68,20 @@ impl Kept for Door {
 }
 
 /// Opens the door, links its cell and gets a hold on it.
-fn open<R: Wait>(rt: &R, turn: &Turn<Door>, seat: TurnSeat<Door>, held: &mut Held) -> TurnSeat<Door>
-    requires seat { IsSeatOf turn.now seat }
-    requires cells { cells_of turn.now ≡ 1 }
+fn open<R: Wait>(
+    rt: &R,
+    lock: &TicketLock<Door>,
+    seat: LockSeat<Door>,
+    held: &mut Held,
+) -> LockSeat<Door>
+    requires seat { IsSeatOf lock.now seat }
+    requires cells { cells_of lock.now ≡ 1 }
     requires none { (holds_of seat ≡ []) × (held.old ≡ []) }
-    ensures turn { IsSeatOf turn.entry.now result }
+    ensures lock { IsSeatOf lock.entry.now result }
     ensures share { share_of result ≡ share_of seat }
     ensures holds { holds_of result ≡ held.new }
 {
-    let mut inside = turn.enter(rt, seat);
+    let mut inside = lock.enter(rt, seat);
     if !inside.kept().open() {
         return inside.leave();
     }
@@ -88,13 +93,13 @@ fn open<R: Wait>(rt: &R, turn: &Turn<Door>, seat: TurnSeat<Door>, held: &mut Hel
 
 /// Shuts the door and unlinks its cell. The answer is also what `unlink` said, or `Last` where the
 /// door wasn't open.
-fn shut<R: Wait>(rt: &R, turn: &Turn<Door>, seat: TurnSeat<Door>) -> (TurnSeat<Door>, Given)
-    requires seat { IsSeatOf turn.now seat }
-    ensures turn { IsSeatOf turn.entry.now result.0 }
+fn shut<R: Wait>(rt: &R, lock: &TicketLock<Door>, seat: LockSeat<Door>) -> (LockSeat<Door>, Given)
+    requires seat { IsSeatOf lock.now seat }
+    ensures lock { IsSeatOf lock.entry.now result.0 }
     ensures share { share_of result.0 ≡ share_of seat }
     ensures holds { holds_of result.0 ≡ holds_of seat }
 {
-    let mut inside = turn.enter(rt, seat);
+    let mut inside = lock.enter(rt, seat);
     if !inside.kept().shut() {
         return (inside.leave(), Given::Last);
     }
@@ -105,16 +110,20 @@ fn shut<R: Wait>(rt: &R, turn: &Turn<Door>, seat: TurnSeat<Door>) -> (TurnSeat<D
 
 /// Gives the hold back. The answer is also what `give_back` said, or `More` where there was no
 /// hold.
-fn release(turn: &Turn<Door>, mut seat: TurnSeat<Door>, held: &mut Held) -> (TurnSeat<Door>, Given)
-    requires seat { IsSeatOf turn.now seat }
+fn release(
+    lock: &TicketLock<Door>,
+    mut seat: LockSeat<Door>,
+    held: &mut Held,
+) -> (LockSeat<Door>, Given)
+    requires seat { IsSeatOf lock.now seat }
     requires holds { holds_of seat ≡ held.old }
-    ensures turn { IsSeatOf turn.entry.now result.0 }
+    ensures lock { IsSeatOf lock.entry.now result.0 }
     ensures share { share_of result.0 ≡ share_of seat }
 {
     if !held.has(CELL) {
         return (seat, Given::More);
     }
-    let given = give_back(turn, &mut seat, held, CELL);
+    let given = give_back(lock, &mut seat, held, CELL);
     (seat, given)
 }
 
@@ -122,15 +131,15 @@ fn release(turn: &Turn<Door>, mut seat: TurnSeat<Door>, held: &mut Held) -> (Tur
 fn who_unlinks_has_more_and_who_gives_the_last_hold_back_is_told(
     rt: HostRuntime,
 ) -> Result<(), Fail> {
-    let Ok((turn, seat)) = Turn::new(rt.alloc(), Door::Unopened, 1) else {
+    let Ok((lock, seat)) = TicketLock::new(rt.alloc(), Door::Unopened, 1) else {
         return Err("there is memory for a lock".into());
     };
     let mut held = Held::new();
-    let seat = open(&rt, &turn, seat, &mut held);
+    let seat = open(&rt, &lock, seat, &mut held);
     let has = held.has(CELL);
-    let (seat, unlinked) = shut(&rt, &turn, seat);
-    let (seat, given) = release(&turn, seat, &mut held);
-    let door = turn.close(seat);
+    let (seat, unlinked) = shut(&rt, &lock, seat);
+    let (seat, given) = release(&lock, seat, &mut held);
+    let door = lock.close(seat);
     assert!(rt; has);
     assert_eq!(rt; unlinked, Given::More);
     assert_eq!(rt; given, Given::Last);

@@ -17,6 +17,7 @@ use Rattle.ov_model.specs.declared.answer.Answer.{Answer}
 use Rattle.ov_model.specs.declared.answer.Answer.TheVariants as answer
 use Rattle.ov_model.specs.declared.report.LaneLog.{LaneLog}
 use Rattle.ov_model.specs.declared.report.Report.{Report}
+use Rattle.ov_model.specs.Limits.{greatest_packet_id}
 use Rattle.ov_model.specs.Tables.{Material}
 use Rattle.ov_model.specs.Events.{DrawnId}
 use Rattle.ov_model.specs.Removals.{times}
@@ -90,11 +91,11 @@ abbrev pub spends : ℕ → Entry → Bool
 spends key e = spends_key key e.call.act
 
 -- The ids of one key are the numbers from the first on, each once and none left out; none is above
--- 4294967295, and a key that was spent gave that one.
+-- the greatest, and a key that was spent gave that one.
 pub record KeyCounts (first : ℕ) (report : Report) (key : ℕ) : Type 0 where
   pub once : (n : ℕ) → times n (ids_in report.lanes key) ≡ between first (first + length (ids_in report.lanes key)) n
-  pub most : first + length (ids_in report.lanes key) < 4294967297
-  pub spent : list_any (spends key) report.journal ≡ true → first + length (ids_in report.lanes key) ≡ 4294967296
+  pub most : first + length (ids_in report.lanes key) < greatest_packet_id + 2
+  pub spent : list_any (spends key) report.journal ≡ true → first + length (ids_in report.lanes key) ≡ greatest_packet_id + 1
 
 -- Packet ids: of each key over all lanes, and in each lane they rise.
 pub record IdsCount (first : ℕ) (report : Report) : Type 0 where

@@ -8,6 +8,7 @@ use Rattle.ov_model.specs.declared.answer.Answer.{Answer}
 use Rattle.ov_model.specs.declared.replay.ReplayEntry.{ReplayEntry}
 use Rattle.ov_model.specs.declared.report.LaneLog.{LaneLog}
 use Rattle.ov_model.specs.declared.report.Report.{Report}
+use Rattle.ov_model.specs.Limits.{shard_count}
 use Rattle.ov_model.specs.Runs.{IsRun, notes_of}
 use Rattle.ov_model.specs.Events.{Step, of, shown_in, steps_of}
 use Rattle.ov_model.specs.Tables.{Material}
@@ -69,11 +70,11 @@ abbrev pub LinesRise : ℕ → List ReplayEntry → Type 0
 LinesRise lane [] = Unit {0}
 LinesRise lane (r ∷ rs) = (r.place.lane ≡ lane → AllByRecursion (λ later. later.place.lane ≡ lane → r.place.line < later.place.line) rs) × LinesRise lane rs
 
--- Replay shards: there are eight; each step stands in the shard of its key and has the moment and the
+-- Replay shards: there are shard_count of them; each step stands in the shard of its key and has the moment and the
 -- verdict that the earlier steps of its key give it; its lane exists (LaneMeets says that its line does);
 -- and in each lane the line numbers rise along the shard.
 pub record ShardsJudge (report : Report) : Type 0 where
-  pub eight : length report.shards ≡ 8
+  pub eight : length report.shards ≡ shard_count
   pub judges : (shard : ℕ) (rs : List ReplayEntry) → slice_get report.shards shard ≡ Some rs → ShardJudges shard rs
   pub within : AllByRecursion (λ shard. AllByRecursion (λ r. r.place.lane < length report.lanes) shard) report.shards
   pub rise : (lane : ℕ) → AllByRecursion (λ shard. LinesRise lane shard) report.shards

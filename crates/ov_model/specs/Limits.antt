@@ -1,5 +1,5 @@
 -- The limits of a session and the numbers of the wire, each once.
-use Rattle.std.specs.Prelude.{ℕ, ◌+◌}
+use Rattle.std.specs.Prelude.{ℕ, ◌+◌, ◌-◌}
 
 -- How many peers a session may make.
 abbrev pub most_peers : ℕ
@@ -16,6 +16,22 @@ greatest_peer_id = 16777215
 -- The greatest key id, of 3 bits.
 abbrev pub greatest_key_id : ℕ
 greatest_key_id = 7
+
+-- How many key ids there are. The first byte of a datagram is its opcode times this, and its key id.
+abbrev pub key_id_count : ℕ
+key_id_count = greatest_key_id + 1
+
+-- The opcode of a data packet of the first version, which names no peer.
+abbrev pub data_v1_opcode : ℕ
+data_v1_opcode = 6
+
+-- The opcode of a data packet of the second version.
+abbrev pub data_v2_opcode : ℕ
+data_v2_opcode = 9
+
+-- The bytes of a datagram below which its first byte isn't looked at.
+abbrev pub shortest_datagram : ℕ
+shortest_datagram = 4
 
 -- The greatest packet id, of 32 bits: a key that sealed it is spent.
 abbrev pub greatest_packet_id : ℕ
@@ -49,6 +65,6 @@ shard_count = 8
 abbrev pub longest_datagram : ℕ
 longest_datagram = 65507
 
--- The most bytes of an inner packet to be sent.
+-- The most bytes of an inner packet to be sent: its datagram has the head and the tag more.
 abbrev pub longest_packet : ℕ
-longest_packet = 65483
+longest_packet = longest_datagram - overhead

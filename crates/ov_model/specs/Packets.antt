@@ -7,6 +7,7 @@ use Rattle.ov_base.specs.declared.address.Addr.TheVariants.{V4, V6}
 use Rattle.ov_aes.specs.Aes.{key_list}
 use Rattle.ov_gcm.specs.Gcm.{seal_text, seal_tag, tag_of, plain}
 use Rattle.ov_model.specs.declared.command.KeyDir.{KeyDir}
+use Rattle.ov_model.specs.Limits.{head_length, tag_length, overhead, key_id_count, data_v1_opcode, data_v2_opcode, shortest_datagram}
 
 -- The number in the n bytes from place i, the highest first (network byte order).
 abbrev pub number_from : ℕ → ℕ → List ℕ → ℕ
@@ -23,26 +24,25 @@ pub data HeadKind : Type 0 where
   control : HeadKind
   data_v2 : (id key_id packet_id : ℕ) → HeadKind
 
--- The first byte has the opcode in its high five bits and the key id in its low three. Opcode 6 is data
--- of the first version and 9 of the second; all others are the control channel's. A head has 8 bytes,
--- and a tag of 16 follows it.
+-- The first byte has the opcode in its high five bits and the key id in its low three. All opcodes but
+-- those of data are the control channel's. A head is followed by a tag.
 abbrev pub head_by : (length opcode : ℕ) → List ℕ → HeadKind
 head_by size opcode bytes =
-    if nat_lt size 4 then short else
-    (if opcode == 6 then data_v1 else
-    (if opcode == 9 then
-    (if nat_lt size 24 then short else
-    data_v2 (number_from 1 3 bytes) (slice_index bytes 0 % 8) (number_from 4 4 bytes))
+    if nat_lt size shortest_datagram then short else
+    (if opcode == data_v1_opcode then data_v1 else
+    (if opcode == data_v2_opcode then
+    (if nat_lt size overhead then short else
+    data_v2 (number_from 1 3 bytes) (slice_index bytes 0 % key_id_count) (number_from 4 4 bytes))
     else control))
 
 -- What the first bytes of a datagram say it is: by its length and its first byte.
 abbrev pub head_of : List ℕ → HeadKind
-head_of bytes = head_by (length bytes) (slice_index bytes 0 / 8) bytes
+head_of bytes = head_by (length bytes) (slice_index bytes 0 / key_id_count) bytes
 
--- The 8 bytes of a data packet's head: opcode and key id, peer id, packet id.
+-- The bytes of a data packet's head: opcode and key id, peer id, packet id.
 abbrev pub head_bytes : (id key_id packet_id : ℕ) → List ℕ
 head_bytes id key_id packet_id =
-    ((9 * 8 + key_id) ∷ bytes_high_first 3 id) ++ bytes_high_first 4 packet_id
+    ((data_v2_opcode * key_id_count + key_id) ∷ bytes_high_first 3 id) ++ bytes_high_first 4 packet_id
 
 -- ---- the datagram
 
@@ -58,17 +58,17 @@ datagram id key_id packet_id key tail packet =
     ++ seal_tag key (nonce_of packet_id tail) (head_bytes id key_id packet_id) packet
     ++ seal_text key (nonce_of packet_id tail) (head_bytes id key_id packet_id) packet
 
--- The head of a received data packet: its first 8 bytes.
+-- The head of a received data packet: its first bytes.
 abbrev pub head_part : List ℕ → List ℕ
-head_part bytes = take 8 bytes
+head_part bytes = take head_length bytes
 
--- The tag of a received data packet: the 16 bytes behind its head.
+-- The tag of a received data packet: the bytes behind its head.
 abbrev pub tag_part : List ℕ → List ℕ
-tag_part bytes = take 16 (drop 8 bytes)
+tag_part bytes = take tag_length (drop head_length bytes)
 
 -- The ciphertext of a received data packet: all that is behind head and tag.
 abbrev pub sealed_part : List ℕ → List ℕ
-sealed_part bytes = drop 24 bytes
+sealed_part bytes = drop overhead bytes
 
 -- The packet id in the head of a received data packet: its bytes 4 to 7.
 abbrev pub packet_id_of : List ℕ → ℕ

@@ -34,6 +34,7 @@ use Rattle.ov_model.specs.declared.answer.Answer.{Answer}
 use Rattle.ov_model.specs.declared.answer.Answer.TheVariants as answer
 use Rattle.ov_model.specs.declared.answer.DropCause.{DropCause}
 use Rattle.ov_model.specs.declared.answer.DropCause.TheVariants as drop
+use Rattle.ov_model.specs.Limits.{overhead}
 use Rattle.ov_model.specs.Ident.{peer_id, key_id}
 use Rattle.ov_model.specs.Tables.{Material}
 use Rattle.ov_model.specs.Checked.{checked}
@@ -116,9 +117,9 @@ packet_in (deed.Tx packet) m = packet
 packet_in (deed.Rx from bytes) m = unwrap_or (opened m.decrypt bytes) []
 packet_in (deed.Netlink n) m = []
 
--- A datagram has 24 bytes more than its inner packet.
+-- A datagram has the head and the tag more than its inner packet.
 abbrev pub outer_length : ℕ → ℕ
-outer_length inner = inner + 24
+outer_length inner = inner + overhead
 
 -- What the table looks at in a received packet: the next hop of its source.
 abbrev pub kind_via : (Addr → Addr) → Kind → InnerKind

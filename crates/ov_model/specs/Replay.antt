@@ -1,6 +1,7 @@
 -- The replay rule of a key, over the list of the ids that it has accepted. The rule knows no ring of marks and keeps no floor.
 use Rattle.std.specs.Prelude.{◌≡◌, ℕ, ◌+◌, ◌-◌, ◌%◌, max, Bool, true, false, ◌==◌, nat_le, nat_lt, ◌||◌, if◌then◌else◌, List, [], ◌∷◌, ◌++◌, take, filter, slice_get, Some}
 use Rattle.std.specs.List.{list_any, list_all}
+use Rattle.ov_model.specs.Limits.{window_places, quiet_seconds, shard_count}
 use Rattle.ov_model.specs.declared.place.Place.{Place}
 use Rattle.ov_model.specs.declared.replay.ReplayEntry.{ReplayEntry}
 use Rattle.ov_model.specs.declared.replay.Verdict.{Verdict}
@@ -26,12 +27,12 @@ abbrev pub has_items : List Accepted → Bool
 has_items [] = false
 has_items (a ∷ l) = true
 
--- The longest prefix that is followed by a gap: 30 seconds or more from its last accept to the next moment.
+-- The longest prefix that is followed by a gap: quiet_seconds or more from its last accept to the next moment.
 unfoldable pub before_gap : List Accepted → ℕ → List Accepted
 before_gap [] m = []
 before_gap (a ∷ l) m =
     let later = before_gap l m in
-    if has_items later || nat_le (a.moment + 30) (next_moment l m) then a ∷ later else []
+    if has_items later || nat_le (a.moment + quiet_seconds) (next_moment l m) then a ∷ later else []
 
 -- The id at or below which nothing is accepted any more at the moment m.
 unfoldable pub floor_of : List Accepted → ℕ → ℕ
@@ -42,7 +43,7 @@ unfoldable pub verdict_of : List Accepted → ℕ → ℕ → Verdict
 verdict_of l id m =
     if id == 0 then Zero else
     (if list_all (λ a. nat_lt a.id id) l then Accept else
-    (if nat_le 2048 (greatest_id l - id) then Old else
+    (if nat_le window_places (greatest_id l - id) then Old else
     (if nat_le id (floor_of l m) then Below else
     (if list_any (λ a. a.id == id) l then Again else Accept))))
 
@@ -77,7 +78,7 @@ judged earlier place key id at =
 
 -- One step of a shard, after all earlier ones: its key belongs there, and its moment and verdict follow from that key's earlier steps.
 pub record IsJudged (shard : ℕ) (earlier : List ReplayEntry) (e : ReplayEntry) : Type 0 where
-  pub key : e.key % 8 ≡ shard
+  pub key : e.key % shard_count ≡ shard
   pub moment : e.moment ≡ max (moment_of (steps_of e.key earlier)) e.at
   pub verdict : e.verdict ≡ verdict_of (accepts_of (steps_of e.key earlier)) e.id e.moment
 

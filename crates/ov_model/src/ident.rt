@@ -1,6 +1,7 @@
 //! The numbers by which packets name peers and keys.
 
 ghost use Rattle.std.specs.Prelude.{◌≡◌, ◌≤◌, ◌<◌, ◌↔◌, IsNone, IfSome};
+ghost use Rattle.ov_model.specs.Limits.{greatest_peer_id, greatest_key_id};
 
 /// The greatest peer id: 24 bits of a P_DATA_V2 head. In a received packet it means "undefined".
 pub const MOST_PEER_ID: u32 = 16777215;
@@ -12,7 +13,7 @@ pub const MOST_KEY_ID: u8 = 7;
 #[derive(Clone, Copy, Debug, PartialEq, Eq)]
 pub struct PeerId {
     number: u32,
-    pub ghost in_range: { number ≤ 16777215 },
+    pub ghost in_range: { number ≤ greatest_peer_id },
 }
 
 impl PeerId {
@@ -21,7 +22,7 @@ impl PeerId {
     /// The id with the number `n`; `None` exactly where `n` is above 16777215.
     pub fn new(n: u32) -> Option<PeerId>
         ensures value { result ≡ peer_id n }
-        ensures none { IsNone result ↔ (16777215 < n) }
+        ensures none { IsNone result ↔ (greatest_peer_id < n) }
         ensures some { IfSome result (λ id. id.number ≡ n) }
     {
         if n > MOST_PEER_ID {
@@ -33,7 +34,7 @@ impl PeerId {
     /// The number.
     pub fn get(self) -> u32
         ensures value { result ≡ self.number }
-        ensures range { result ≤ 16777215 }
+        ensures range { result ≤ greatest_peer_id }
     {
         self.number
     }
@@ -43,7 +44,7 @@ impl PeerId {
 #[derive(Clone, Copy, Debug, PartialEq, Eq)]
 pub struct KeyId {
     number: u8,
-    pub ghost in_range: { number ≤ 7 },
+    pub ghost in_range: { number ≤ greatest_key_id },
 }
 
 impl KeyId {
@@ -52,7 +53,7 @@ impl KeyId {
     /// The id with the number `n`; `None` exactly where `n` is above 7.
     pub fn new(n: u8) -> Option<KeyId>
         ensures value { result ≡ key_id n }
-        ensures none { IsNone result ↔ (7 < n) }
+        ensures none { IsNone result ↔ (greatest_key_id < n) }
         ensures some { IfSome result (λ id. id.number ≡ n) }
     {
         if n > MOST_KEY_ID {
@@ -64,7 +65,7 @@ impl KeyId {
     /// The number.
     pub fn get(self) -> u8
         ensures value { result ≡ self.number }
-        ensures range { result ≤ 7 }
+        ensures range { result ≤ greatest_key_id }
     {
         self.number
     }

@@ -19,8 +19,10 @@ ghost use Rattle.ov_model.specs.Examples.{WindowExamples, DatagramExamples, Inne
 /// has one, and no key is killed by two entries. No removed peer and no key that left its slot is left at
 /// the end exactly where each of them was let go once.
 pub fn removals()
-    ensures noted { (journal : List Entry) → IsRun journal → RemovalsNoted journal (notes_of journal) }
-    ensures released { (journal : List Entry) → IsRun journal → AllReleased journal ↔ EachReleasedOnce journal }
+    ensures noted { (journal : List Entry) → IsRun journal →
+        RemovalsNoted journal (notes_of journal) }
+    ensures released { (journal : List Entry) → IsRun journal →
+        AllReleased journal ↔ EachReleasedOnce journal }
 {}
 
 /// The nonce law: in every legal report each sealed answer's datagram holds the packet of its line. It was
@@ -73,7 +75,9 @@ pub fn examples()
     ensures datagrams { DatagramExamples }
     ensures packets { InnerExamples }
     ensures ids { IdExamples }
-    ensures messages { (id : PeerId) (key : KeyId) → peer_id 5 ≡ Some id → key_id 2 ≡ Some key → MessageExamples id key }
+    ensures messages { (id : PeerId) (key : KeyId) → peer_id 5 ≡ Some id → key_id 2 ≡ Some key →
+        MessageExamples id key }
     ensures new { (id other : PeerId) → (id.number == other.number) ≡ false → NewExamples id other }
-    ensures looks { (id : PeerId) (k l : Key) → (id.number == 16777215) ≡ false → (k.key_id.number == l.key_id.number) ≡ false → LookExamples id k l }
+    ensures looks { (id : PeerId) (k l : Key) → (id.number == 16777215) ≡ false →
+        (k.key_id.number == l.key_id.number) ≡ false → LookExamples id k l }
 {}

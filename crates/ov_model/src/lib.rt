@@ -9,6 +9,7 @@ pub mod entry;
 pub mod hold;
 pub mod ident;
 pub mod laws;
+pub mod limits;
 pub mod line;
 pub mod netlink;
 pub mod note;

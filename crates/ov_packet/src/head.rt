@@ -1,30 +1,14 @@
 // The head of a data packet: opcode and key id, peer id, packet id (OpenVPN's P_DATA_V2).
 
 ghost use Rattle.std.specs.Prelude.{◌≡◌, ◌≤◌, ◌%◌, length};
+ghost use Rattle.ov_model.specs.Limits.{head_length, key_id_count};
 ghost use Rattle.ov_model.specs.Packets.{head_bytes, head_of, number_from};
 ghost use Rattle.ov_packet.specs.Packet.{kind_told};
 
 use byteorder::{BigEndian, ByteOrder};
+use ov_model::limits::{DATA_V1, DATA_V2, HEAD_BYTES, KEY_IDS, OVERHEAD, SHORTEST_DATAGRAM};
 use ov_model::{KeyId, PeerId};
 use thiserror::Error;
-
-/// The opcode of a data packet of the first version, which names no peer.
-const DATA_V1: u8 = 6;
-
-/// The opcode of a data packet of the second version.
-const DATA_V2: u8 = 9;
-
-/// The number of key ids. The first byte is the opcode times this and the key id.
-const KEY_IDS: u8 = 8;
-
-/// The bytes of a datagram below which its first byte isn't looked at.
-const LEAST_BYTES: usize = 4;
-
-/// The bytes of a head.
-const HEAD_BYTES: usize = 8;
-
-/// The bytes of a head and the tag behind it.
-const LEAST_DATA_BYTES: usize = 24;
 
 /// Where the peer id stands: 3 bytes, the highest first.
 const PEER_ID_AT: usize = 1;
@@ -60,12 +44,12 @@ pub enum HeadStop {
 pub fn read_head(bytes: &[u8]) -> Result<Head, HeadStop>
     ensures kind { kind_told result ≡ head_of bytes.now }
 {
-    if bytes.len() < LEAST_BYTES {
+    if bytes.len() < SHORTEST_DATAGRAM {
         return Err(HeadStop::Short);
     }
     match bytes[0] / KEY_IDS {
         DATA_V1 => Err(HeadStop::DataV1),
-        DATA_V2 if bytes.len() < LEAST_DATA_BYTES => Err(HeadStop::Short),
+        DATA_V2 if bytes.len() < OVERHEAD => Err(HeadStop::Short),
         DATA_V2 => Ok(Head {
             id: peer_id(bytes),
             key_id: key_id(bytes[0]),
@@ -77,7 +61,7 @@ pub fn read_head(bytes: &[u8]) -> Result<Head, HeadStop>
 
 /// The peer id of a head.
 fn peer_id(bytes: &[u8]) -> PeerId
-    requires { HEAD_BYTES ≤ length bytes.now }
+    requires { head_length ≤ length bytes.now }
     ensures { result.number ≡ number_from 1 3 bytes.now }
 {
     match PeerId::new(BigEndian::read_u24(&bytes[PEER_ID_AT..])) {
@@ -88,7 +72,7 @@ fn peer_id(bytes: &[u8]) -> PeerId
 
 /// The key id of a head's first byte.
 fn key_id(first: u8) -> KeyId
-    ensures { result.number ≡ first % 8 }
+    ensures { result.number ≡ first % key_id_count }
 {
     match KeyId::new(first % KEY_IDS) {
         Some(id) => id,
@@ -99,7 +83,8 @@ fn key_id(first: u8) -> KeyId
 /// The 8 bytes of a head, which are the associated data of the datagram's seal. With any 16 or more bytes
 /// behind them they read as that head (`laws::head_reads_back`).
 pub fn write_head(head: &Head) -> [u8; HEAD_BYTES]
-    ensures bytes { result ≡ head_bytes head.now.id.number head.now.key_id.number head.now.packet_id }
+    ensures bytes { result ≡
+        head_bytes head.now.id.number head.now.key_id.number head.now.packet_id }
 {
     let mut bytes = [0; HEAD_BYTES];
     bytes[0] = DATA_V2 * KEY_IDS + head.key_id.get();

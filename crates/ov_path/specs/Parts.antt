@@ -7,6 +7,7 @@ use Rattle.ov_model.specs.declared.replay.Verdict.{Verdict}
 use Rattle.ov_model.specs.declared.replay.Verdict.TheVariants as verdict
 use Rattle.ov_model.specs.declared.replay.Refusal.{Refusal}
 use Rattle.ov_model.specs.declared.replay.Refusal.TheVariants as refused
+use Rattle.ov_model.specs.Limits.{overhead}
 use Rattle.ov_model.specs.Packets.{packet_id_of}
 use Rattle.ov_model.specs.Path.{Begin, at_once, first, IsLook}
 use Rattle.ov_path.specs.declared.stage.Purpose.{Purpose}
@@ -29,7 +30,7 @@ begin_told (begun.Look a p) = first a
 -- head.
 abbrev pub PurposeFits : Deed → Purpose → Type 0
 PurposeFits (deed.Tx packet) purpose.Seal = ⊤
-PurposeFits (deed.Rx from bytes) (purpose.Open id) = (id ≡ packet_id_of bytes) × (24 ≤ length bytes)
+PurposeFits (deed.Rx from bytes) (purpose.Open id) = (id ≡ packet_id_of bytes) × (overhead ≤ length bytes)
 PurposeFits _ p = ⊥
 
 -- A look-up is one, and says what its hold is for.

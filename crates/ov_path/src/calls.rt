@@ -6,11 +6,9 @@ ghost use Rattle.ov_model.specs.Path.{kind_via, sent_act, settle_act};
 
 use crate::desk::Desk;
 use ov_base::Addr;
+use ov_model::limits::OVERHEAD;
 use ov_model::{Act, HoldView, InnerKind};
 use ov_packet::{InnerFacts, inner, is_keepalive};
-
-/// The bytes that a datagram has more than its inner packet: head and tag.
-const FRONT_BYTES: u32 = 24;
 
 /// The step that counts a packet as sent by a held peer.
 pub fn sent_of(hold: &HoldView, packet: &[u8]) -> Act
@@ -21,7 +19,7 @@ pub fn sent_of(hold: &HoldView, packet: &[u8]) -> Act
     Act::Sent {
         peer: hold.peer,
         inner,
-        outer: inner + FRONT_BYTES,
+        outer: inner + OVERHEAD as u32,
         ping: false,
     }
 }

@@ -388,11 +388,11 @@ fn receive<D: Desk>(
     place: Place,
     line: &Line,
     hold: HoldView,
-    id: u32,
+    packet_id: u32,
 ) -> Result<Stage, Memory>
     ghost via: { Addr → Addr }
     requires at { Walking via place line.now (D.view desk.old)
-        (stage.Looked hold (purpose.Open id)) }
+        (stage.Looked hold (purpose.Open packet_id)) }
     requires fits { Fits line.now.deed }
     ensures then { IfOk result (λ s. GoesOn via place line.now (D.view desk.new) s) }
     ensures made { OnOk result (Made D.view D.does via place line.now desk.old desk.new) }
@@ -402,13 +402,18 @@ fn receive<D: Desk>(
     let Deed::Rx { datagram, .. } = &line.deed else {
         unreachable!();
     };
-    let opened = open(alloc, pair_of(desk, hold.key), id, datagram.as_slice())?;
+    let opened = open(
+        alloc,
+        pair_of(desk, hold.key),
+        packet_id,
+        datagram.as_slice(),
+    )?;
     let Some(packet) = opened else {
         desk.give_back_key(hold.key);
         let answer = Answer::Dropped(DropCause::BadTag);
         return Ok(Stage::KeyGiven(hold, Use::BadTag, answer));
     };
-    let verdict = desk.replay(place, hold.key, id, line.at)?;
+    let verdict = desk.replay(place, hold.key, packet_id, line.at)?;
     match refusal_of(verdict) {
         Some(refusal) => {
             let answer = Answer::Dropped(dropped_as(refusal));

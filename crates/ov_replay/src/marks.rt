@@ -2,10 +2,10 @@
 //! An id has the place `id mod 2048`, so two ids share one only where they are 2,048 or more apart.
 
 ghost use Rattle.std.specs.Prelude.{◌≡◌, ◌≢◌, ℕ, ◌+◌, ◌%◌, ◌/◌, ◌<◌, ◌≤◌, false, true};
+ghost use Rattle.ov_model.specs.Limits.{window_places};
 ghost use Rattle.ov_replay.specs.Marks.{is_marked, KeepsOthers};
 
-/// The places of a ring.
-pub(crate) const PLACES: u32 = 2048;
+use ov_model::limits::WINDOW_PLACES;
 
 /// The marks, 64 in a word, the lowest place in the lowest bit of the first word.
 #[derive(Clone, Copy, Debug)]
@@ -25,7 +25,7 @@ impl Marks {
     pub(crate) fn has(&self, id: u32) -> bool
         ensures { result ≡ is_marked self.now id }
     {
-        let place = id % PLACES;
+        let place = id % WINDOW_PLACES;
         self.words[(place / 64) as usize] >> (place % 64) & 1 == 1
     }
 
@@ -34,7 +34,7 @@ impl Marks {
         ensures set { is_marked self.new id ≡ true }
         ensures others { KeepsOthers self.old self.new id }
     {
-        let place = id % PLACES;
+        let place = id % WINDOW_PLACES;
         self.words[(place / 64) as usize] |= 1 << (place % 64);
     }
 
@@ -43,17 +43,18 @@ impl Marks {
         ensures cleared { is_marked self.new id ≡ false }
         ensures others { KeepsOthers self.old self.new id }
     {
-        let place = id % PLACES;
+        let place = id % WINDOW_PLACES;
         self.words[(place / 64) as usize] &= !(1 << (place % 64));
     }
 
     /// Takes the marks from the 64 places that share a word with the place of `id`.
     pub(crate) fn clear_word(&mut self, id: u32)
-        ensures cleared { (other : ℕ) → other % 2048 / 64 ≡ id % 2048 / 64 → is_marked self.new other ≡ false }
-        ensures others { (other : ℕ) → other % 2048 / 64 ≢ id % 2048 / 64
+        ensures cleared { (other : ℕ) → other % window_places / 64 ≡ id % window_places / 64
+            → is_marked self.new other ≡ false }
+        ensures others { (other : ℕ) → other % window_places / 64 ≢ id % window_places / 64
             → is_marked self.new other ≡ is_marked self.old other }
     {
-        let place = id % PLACES;
+        let place = id % WINDOW_PLACES;
         self.words[(place / 64) as usize] = 0;
     }
 
@@ -63,11 +64,11 @@ impl Marks {
     pub(crate) fn pass(&mut self, from: u32, to: u32)
         requires { from ≤ to }
         ensures passed { (id : ℕ) → from < id → id ≤ to → is_marked self.new id ≡ false }
-        ensures kept { (id : ℕ) → id ≤ from → to < id + 2048
+        ensures kept { (id : ℕ) → id ≤ from → to < id + window_places
             → is_marked self.new id ≡ is_marked self.old id }
     {
         let jump = to - from;
-        if jump >= PLACES {
+        if jump >= WINDOW_PLACES {
             *self = Marks::none();
             return;
         }

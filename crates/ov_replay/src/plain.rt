@@ -3,6 +3,7 @@
 
 use ov_base::Memory;
 use ov_model::Verdict;
+use ov_model::limits::{QUIET_SECONDS, WINDOW_PLACES};
 use std::alloc::Global;
 
 /// An accepted id with the window's moment at its acceptance.
@@ -47,7 +48,7 @@ impl PlainWindow {
             Verdict::Zero
         } else if self.accepted.iter().all(|a| a.id < id) {
             Verdict::Accept
-        } else if greatest >= id && greatest - id >= 2048 {
+        } else if greatest >= id && greatest - id >= WINDOW_PLACES {
             Verdict::Old
         } else if id <= self.floor() {
             Verdict::Below
@@ -66,7 +67,7 @@ impl PlainWindow {
                 Some(next) => next.moment,
                 None => self.moment,
             };
-            if u64::from(last.moment) + 30 <= u64::from(next) {
+            if u64::from(last.moment) + u64::from(QUIET_SECONDS) <= u64::from(next) {
                 floor = greatest(&self.accepted[..index + 1]);
             }
         }

@@ -4,6 +4,7 @@
 ghost use Rattle.std.specs.Prelude.{◌≡◌, ◌%◌, ◌<◌, [], ◌∷◌, ◌++◌, IfOk, OnOk, OnErr, MatchOption};
 ghost use Rattle.std.specs.BTreeMap.{get};
 ghost use Rattle.std.specs.Ordering.{nat_cmp};
+ghost use Rattle.ov_model.specs.Limits.{shard_count};
 ghost use Rattle.ov_model.specs.Replay.{ShardJudges, judged};
 ghost use Rattle.ov_replay.specs.Window.{Stands};
 
@@ -38,7 +39,7 @@ impl Shard {
     /// The shard of the keys whose remainder modulo 8 is `number`. It takes no memory until its
     /// first step.
     pub fn new(alloc: Global, number: u32) -> Shard
-        requires { number < 8 }
+        requires { number < shard_count }
         ensures { result ≡ record { number = number; entries = [] } }
     {
         Shard {
@@ -51,12 +52,14 @@ impl Shard {
     /// Makes the step of packet id `id` on the window of the key with the serial `key` and stores
     /// its entry. A key that has no window yet gets a new one. After Memory the shard is as it was.
     pub fn step(&mut self, place: Place, key: u32, id: u32, at: u32) -> Result<Verdict, Memory>
-        requires { key % 8 ≡ self.old.number }
+        requires { key % shard_count ≡ self.old.number }
         // The stored entry is the one that the rule gives after the key's earlier steps.
         ensures verdict { IfOk result (λ verdict.
             verdict ≡ (judged self.old.entries place key id at).verdict) }
         ensures ok { OnOk result (self.new
-            ≡ record self.old { entries = self.old.entries ++ judged self.old.entries place key id at ∷ [] }) }
+            ≡ record self.old {
+              entries = self.old.entries ++ judged self.old.entries place key id at ∷ [];
+            }) }
 
         // Want of memory changes nothing, neither the window nor its moment.
         ensures err { OnErr result (self.new ≡ self.old) }
@@ -93,7 +96,8 @@ impl Shard {
 
 /// The window of a key, a new one where it has none.
 fn window_of(windows: &BTreeMap<u32, Window>, key: u32) -> Window
-    ensures { MatchOption (get nat_cmp windows.now key) (Stands result [] 0) (λ window. result ≡ window) }
+    ensures { MatchOption (get nat_cmp windows.now key) (Stands result [] 0)
+        (λ window. result ≡ window) }
 {
     match windows.get(&key) {
         Some(window) => *window,

@@ -6,13 +6,10 @@ ghost use Rattle.ov_model.specs.Replay.{Accepted, verdict_of, accepted_by, floor
 ghost use Rattle.ov_model.specs.declared.replay.Verdict.TheVariants.{Accept};
 ghost use Rattle.ov_replay.specs.Window.{Stands};
 
-use crate::marks::{Marks, PLACES};
+use crate::marks::Marks;
 use ov_base::Memory;
 use ov_model::Verdict;
-
-/// So many seconds from an accept to whatever comes next are a gap: ids up to the greatest one
-/// accepted before it are over.
-const GAP: u32 = 30;
+use ov_model::limits::{QUIET_SECONDS, WINDOW_PLACES};
 
 /// What a key has accepted, seen from its highest id. With H for the highest id:
 ///
@@ -63,7 +60,8 @@ impl Window {
 
         // Afterwards the window stands for the list with what the verdict adds, at the later moment.
         ensures stands { (l : List Accepted) (m : ℕ) → Stands self.old l m
-            → let now = max m at in Stands self.new (l ++ accepted_by (verdict_of l id now) id now) now }
+            → let now = max m at in
+            Stands self.new (l ++ accepted_by (verdict_of l id now) id now) now }
 
         ensures memory { IsOk result }
     {
@@ -90,7 +88,7 @@ impl Window {
             Verdict::Zero
         } else if id > self.highest {
             Verdict::Accept
-        } else if self.highest - id >= PLACES {
+        } else if self.highest - id >= WINDOW_PLACES {
             Verdict::Old
         } else if id <= self.floor_now() {
             Verdict::Below
@@ -105,7 +103,7 @@ impl Window {
     fn floor_now(&self) -> u32
         ensures { (l : List Accepted) (m : ℕ) → Stands self.now l m → result ≡ floor_of l m }
     {
-        if self.moment.saturating_sub(self.last) >= GAP {
+        if self.moment.saturating_sub(self.last) >= QUIET_SECONDS {
             self.highest
         } else {
             self.floor

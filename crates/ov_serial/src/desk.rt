@@ -16,15 +16,13 @@ use crate::holding::Hold;
 use crate::past::{Judged, Mark, Past};
 use ov_base::{Addr, ListOf, Memory};
 use ov_keys::KeyPair;
+use ov_model::limits::SHARDS;
 use ov_model::{Act, Call, Drawn, Entry, Given, Note, Owed, Place, ReplayEntry, Reply, Verdict};
 use ov_path::Desk;
 use ov_replay::Shard;
 use ov_table::Table;
 use std::alloc::Global;
 use std::marker::Model;
-
-/// The number of replay shards: a key's is its serial modulo this.
-const SHARDS: u32 = 8;
 
 /// The marks that one call needs with all that may come before the next that can take room: its own, four
 /// of a hold, and the releases of two keys and a peer.

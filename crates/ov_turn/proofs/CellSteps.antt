@@ -4,7 +4,7 @@ use mathlib.Core.Logic.{dite}
 use native.Mathlib.Decide.{ℕ_discrete, dec_lt}
 use Rattle.ov_base.specs.Sums.{count_of}
 use Rattle.ov_turn.specs.Lists.{has, newly, still, without}
-use Rattle.ov_turn.specs.Places.{Lists}
+use Rattle.ov_turn.specs.Views.{Lists}
 use Rattle.ov_turn.specs.HoldRule.{IsCell, AreCells, MayBecome}
 use Rattle.ov_turn.proofs.Members.{newly_old, newly_new, still_in, still_out, without_has, others_has}
 

@@ -7,49 +7,49 @@ use native.Mathlib.Decide.{ℕ_discrete}
 use lib.ListN.{get_elem?}
 use Rattle.ov_base.specs.Sums.{total, count_of}
 use Rattle.ov_base.proofs.Sums.{total_set}
-use Rattle.ov_turn.specs.declared.place.Place.{Place}
+use Rattle.ov_turn.specs.declared.view.View.{View}
 use Rattle.ov_turn.specs.Lists.{times}
-use Rattle.ov_turn.specs.Places.{Lists, share, has_ticket, waits, is_inside, owns, holds, owes}
+use Rattle.ov_turn.specs.Views.{Lists, share, has_ticket, waits, is_inside, owns, holds, owes}
 use Rattle.ov_turn.specs.TurnRule.{Fits}
 
 pub total_same : {A : Type 0} (f : A → ℕ) (l : List A) (i : ℕ) (v w : A) → get_elem? l i ≡ some v → f w ≡ f v → total f (set l i w) ≡ total f l
 total_same f l i v w at same = let s = total_set f l i v w at in omega arith
 
 module _ {I : Type 0} where
-  pub ticket_yes : (t : ℕ) (v : Place I) → v.queued ≡ true → v.ticket ≡ t → has_ticket t v ≡ 1
+  pub ticket_yes : (t : ℕ) (v : View I) → v.queued ≡ true → v.ticket ≡ t → has_ticket t v ≡ 1
   ticket_yes t v q e = let b : (v.ticket == t) ≡ true = eq-eqb v.ticket t e in rw (q, b)
 
-  pub ticket_other : (t : ℕ) (v : Place I) → v.ticket ≢ t → has_ticket t v ≡ 0
+  pub ticket_other : (t : ℕ) (v : View I) → v.ticket ≢ t → has_ticket t v ≡ 0
   ticket_other t v ne = by v.queued
     where
       by : (q : Bool) → ◌≡◌ {A = ℕ} (if q && (v.ticket == t) then 1 else 0) 0
       by true = let b : (v.ticket == t) ≡ false = ne_eqb v.ticket t ne in rw b
       by false = refl
 
-  pub ticket_no : (t : ℕ) (v : Place I) → v.queued ≡ false → has_ticket t v ≡ 0
+  pub ticket_no : (t : ℕ) (v : View I) → v.queued ≡ false → has_ticket t v ≡ 0
   ticket_no t v q = rw q
 
-  pub waits_yes : (v : Place I) → v.queued ≡ true → waits v ≡ 1
+  pub waits_yes : (v : View I) → v.queued ≡ true → waits v ≡ 1
   waits_yes v q = rw q
 
-  pub waits_no : (v : Place I) → v.queued ≡ false → waits v ≡ 0
+  pub waits_no : (v : View I) → v.queued ≡ false → waits v ≡ 0
   waits_no v q = rw q
 
-  pub inside_yes : (v : Place I) → v.inside ≡ true → is_inside v ≡ 1
+  pub inside_yes : (v : View I) → v.inside ≡ true → is_inside v ≡ 1
   inside_yes v q = rw q
 
-  pub inside_no : (v : Place I) → v.inside ≡ false → is_inside v ≡ 0
+  pub inside_no : (v : View I) → v.inside ≡ false → is_inside v ≡ 0
   inside_no v q = rw q
 
   -- whoever counts as inside is
-  pub is_in : (v : Place I) → 0 < is_inside v → v.inside ≡ true
+  pub is_in : (v : View I) → 0 < is_inside v → v.inside ≡ true
   is_in v h = by v.inside h
     where
       by : (b : Bool) → 0 < (if b then 1 else 0) → b ≡ true
       by true h = refl
       by false h = absurd (omega arith)
 
-  module _ {count served : ℕ} {log : List I} {lists : Lists} (v : Place I) (fits : Fits count served log lists v) where
+  module _ {count served : ℕ} {log : List I} {lists : Lists} (v : View I) (fits : Fits count served log lists v) where
     pub waits_share : waits v ≤ share v
     waits_share = dite (ℕ_discrete v.share 0)
         (λ z. let n = waits_no v (fits.idle z).0 in omega arith)

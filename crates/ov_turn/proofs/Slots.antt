@@ -4,7 +4,7 @@ use Rattle.atomic_table.specs.Table.{rest}
 use Rattle.atomic_table.specs.Lent.{seat_with}
 use Rattle.ov_turn.specs.declared.inside.Inside.{Inside}
 use denote.Struct.Props.{props}
-use Rattle.ov_turn.specs.Places.{holds_fit, lists_fit}
+use Rattle.ov_turn.specs.Views.{holds_fit, lists_fit}
 use Rattle.ov_turn.specs.Slots.{front, kept_in}
 use Rattle.ov_turn.specs.Insides.{inside_with}
 
@@ -55,11 +55,11 @@ module _ {S : Type 0} where
   slot_value (x ∷ xs) h y more e = sym (kept_same (x ∷ xs) ((0, y) ∷ more) h refl e)
 
 -- two seats with the same kept value are one: nothing else can differ
-pub lent_same : {S I : Type 0} (it : Inside S I) (w : S) (h : it.seat.table_id ≡ it.turn.now.table.shared.table_id) (s : ((◌≡◌ {A = ℕ} 0 0) × (length (rest it.seat.me.1) ≡ 0))) (p : IsPlaced it) (f : IsFit it)
-    → ◌≡◌ {A = Inside S I} record { turn = it.turn; seat = seat_with it.seat 0 w; here = h; slot = s; place = p; fit = f } (inside_with it w)
+pub lent_same : {S I : Type 0} (it : Inside S I) (w : S) (h : it.seat.table_id ≡ it.lock.now.table.shared.table_id) (s : ((◌≡◌ {A = ℕ} 0 0) × (length (rest it.seat.me.1) ≡ 0))) (p : IsPlaced it) (f : IsFit it)
+    → ◌≡◌ {A = Inside S I} record { lock = it.lock; seat = seat_with it.seat 0 w; here = h; slot = s; place = p; fit = f } (inside_with it w)
 lent_same it w h s p f =
-    let hp : IsProp (it.seat.table_id ≡ it.turn.now.table.shared.table_id) = hlevel props in
+    let hp : IsProp (it.seat.table_id ≡ it.lock.now.table.shared.table_id) = hlevel props in
     let sp : IsProp ((◌≡◌ {A = ℕ} 0 0) × (length (rest it.seat.me.1) ≡ 0)) = hlevel props in
     let pp : IsProp (IsPlaced it) = hlevel props in
     let fp : IsProp (IsFit it) = hlevel props in
-    λ i. record { turn = it.turn; seat = seat_with it.seat 0 w; here = hp h it.here i; slot = sp s (refl, it.slot.1) i; place = pp p it.place i; fit = fp f it.fit i }
+    λ i. record { lock = it.lock; seat = seat_with it.seat 0 w; here = hp h it.here i; slot = sp s (refl, it.slot.1) i; place = pp p it.place i; fit = fp f it.fit i }

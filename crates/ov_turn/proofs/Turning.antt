@@ -12,9 +12,9 @@ use Rattle.atomic_table.specs.Table.{State, Me, step, keeps, takes, gives, put_b
 use Rattle.atomic_table.proofs.Lists.{at_last, set_here, set_else, set_again, one_turn}
 use Rattle.ov_base.specs.Sums.{total, between, count_of}
 use Rattle.ov_base.proofs.Sums.{total_set, total_snoc, total_append, total_le, part_le, pair_le, alone, each_set, each_other, each_snoc, between_in, between_out, between_le, between_is, between_more}
-use Rattle.ov_turn.specs.declared.place.Place.{Place}
+use Rattle.ov_turn.specs.declared.view.View.{View}
 use Rattle.ov_turn.specs.Lists.{has, newly, AreOf, IsWhole, all_below}
-use Rattle.ov_turn.specs.Places.{Lists, share, has_ticket, waits, is_inside, owns, holds, owes, lists_of, lists_fit}
+use Rattle.ov_turn.specs.Views.{Lists, share, has_ticket, waits, is_inside, owns, holds, owes, lists_of, lists_fit}
 use Rattle.ov_turn.specs.HoldRule.{AreCells, MayBecome}
 use Rattle.ov_turn.specs.TurnRule.{at_rest, whole, Fits, IsTurned}
 use Rattle.ov_turn.specs.Steps.{in_line, entered, appended, outside, holding, first_part, second_part, both_parts, no_part, queues, leaves, meets, Enters, enters, appends}
@@ -43,7 +43,7 @@ snoc_same [] a b e = cc e
 snoc_same (x ∷ xs) a b e = snoc_same xs a b (cc e)
 
 -- Two lists of views that count for the same in all that the rule adds up.
-record CountSame {I : Type 0} (us vs : List (Place I)) : Type 0 where
+record CountSame {I : Type 0} (us vs : List (View I)) : Type 0 where
   shares : total share us ≡ total share vs
   tickets : (t : ℕ) → total (has_ticket t) us ≡ total (has_ticket t) vs
   waiting : total waits us ≡ total waits vs
@@ -54,32 +54,32 @@ record CountSame {I : Type 0} (us vs : List (Place I)) : Type 0 where
 
 module _ {S I : Type 0} (history : S → List I) (live dying : S → List ℕ) (count : ℕ) where
   abbrev M : Type 0
-  M = Me S (Place I)
+  M = Me S (View I)
 
-  abbrev pub T : State S (Place I) → Type 0
+  abbrev pub T : State S (View I) → Type 0
   T = IsTurned history live dying count
 
   -- no more tickets are out than there are seats
-  few : (s : State S (Place I)) (r : T s) → r.drawn ≤ r.served + 4294967296
+  few : (s : State S (View I)) (r : T s) → r.drawn ≤ r.served + 4294967296
   few s r = let w = total_le waits share s.views (λ i v at. waits_share v (r.each i v at)) in omega (arith, r.line, r.shares)
 
   -- a seat's ticket is one of those that are out
-  mine_out : (s : State S (Place I)) (r : T s) (id : ℕ) (v : Place I) → get_elem? s.views id ≡ some v → v.queued ≡ true → (r.served ≤ v.ticket) × (v.ticket < r.drawn)
+  mine_out : (s : State S (View I)) (r : T s) (id : ℕ) (v : View I) → get_elem? s.views id ≡ some v → v.queued ≡ true → (r.served ≤ v.ticket) × (v.ticket < r.drawn)
   mine_out s r id v at q =
       let p = part_le (has_ticket v.ticket) s.views id v at in
       let one = ticket_yes v.ticket v q refl in
       between_is r.served r.drawn v.ticket (omega (arith, r.out v.ticket))
 
   -- beside a seat that has the ticket that is served nobody is inside
-  pub others_out : (s : State S (Place I)) (r : T s) (id : ℕ) (v : Place I) → get_elem? s.views id ≡ some v → has_ticket r.served v ≡ 1
-      → (j : ℕ) (u : Place I) → j ≢ id → get_elem? s.views j ≡ some u → u.inside ≡ true → ⊥
+  pub others_out : (s : State S (View I)) (r : T s) (id : ℕ) (v : View I) → get_elem? s.views id ≡ some v → has_ticket r.served v ≡ 1
+      → (j : ℕ) (u : View I) → j ≢ id → get_elem? s.views j ≡ some u → u.inside ≡ true → ⊥
   others_out s r id v at one j u ne there is =
       let p = pair_le (has_ticket r.served) s.views id j v u ne at there in
       let also = inside_served u (r.each j u there) is in
       omega (arith, r.out r.served, between_le r.served r.drawn r.served)
 
   -- a step that changes one of the first three words, and no hold
-  same_cells : (s : State S (Place I)) (r : T s) (id : ℕ) (v w : Place I) (i n : ℕ) → get_elem? s.views id ≡ some v → i < 3 → w.holds ≡ v.holds → w.owes ≡ v.owes
+  same_cells : (s : State S (View I)) (r : T s) (id : ℕ) (v w : View I) (i n : ℕ) → get_elem? s.views id ≡ some v → i < 3 → w.holds ≡ v.holds → w.owes ≡ v.owes
       → AreCells count r.lists (set s.words i n) (λ c. total (holds c) (set s.views id w)) (λ c. total (owes c) (set s.views id w))
   same_cells s r id v w i n at low h o =
       cells_stay count r.lists s.words (set s.words i n) (λ c. total (holds c) s.views) (λ c. total (holds c) (set s.views id w)) (λ c. total (owes c) s.views) (λ c. total (owes c) (set s.views id w)) r.cells
@@ -139,15 +139,15 @@ module _ {S I : Type 0} (history : S → List I) (live dying : S → List ℕ) (
       )
 
   -- a look at a word changes no word
-  as_found : (s : State S (Place I)) (i : ℕ) (hs : List (Option S)) (vs : List (Place I)) → T record { words = s.words; homes = hs; views = vs } → T record { words = set s.words i (get_or s.words i 0); homes = hs; views = vs }
+  as_found : (s : State S (View I)) (i : ℕ) (hs : List (Option S)) (vs : List (View I)) → T record { words = s.words; homes = hs; views = vs } → T record { words = set s.words i (get_or s.words i 0); homes = hs; views = vs }
   as_found s i hs vs r = subst (λ (ws : List ℕ). T record { words = ws; homes = hs; views = vs }) (sym (set-get_or s.words i 0)) r
 
   -- a cell that is listed is a cell of the table
-  pub listed : (s : State S (Place I)) (r : T s) (c : ℕ) → 0 < has c r.lists.live + has c r.lists.dying → c < count
+  pub listed : (s : State S (View I)) (r : T s) (c : ℕ) → 0 < has c r.lists.live + has c r.lists.dying → c < count
   listed s r c h = dite (dec_lt c count) (λ lt. lt) (λ n. let z = (r.cells c).small (omega arith) in absurd (omega arith))
 
   -- The seat finds that its ticket is served, and the kept value is at home.
-  served_step : (id : ℕ) (me : M) → me.0.queued ≡ true → me.0.inside ≡ false → 0 < me.0.share → (s : State S (Place I)) (r : T s) → get_elem? s.views id ≡ some me.0 → get_or s.words 1 0 ≡ me.0.ticket % 18446744073709551616
+  served_step : (id : ℕ) (me : M) → me.0.queued ≡ true → me.0.inside ≡ false → 0 < me.0.share → (s : State S (View I)) (r : T s) → get_elem? s.views id ≡ some me.0 → get_or s.words 1 0 ≡ me.0.ticket % 18446744073709551616
       → (y : S) × (get_elem? s.homes 0 ≡ some (some y)) × T (stepped s 1 (get_or s.words 1 0) id me.1 (entered me.0 (history y) (live y) (dying y)) (takes 0 y)) × Enters history live dying me (entered me.0 (history y) (live y) (dying y), (0, y) ∷ me.1) y
   served_step id me q not_inside part s r at is =
       let v = me.0 in
@@ -220,12 +220,12 @@ module _ {S I : Type 0} (history : S → List I) (live dying : S → List ℕ) (
         me.0,
         keeps,
         tt,
-        as_found s 1 s.homes (set s.views id me.0) (subst (λ (vs : List (Place I)). T record { words = s.words; homes = s.homes; views = vs }) (sym (set_again s.views id me.0 at)) r),
+        as_found s 1 s.homes (set s.views id me.0) (subst (λ (vs : List (View I)). T record { words = s.words; homes = s.homes; views = vs }) (sym (set_again s.views id me.0 at)) r),
         ((λ is. absurd (not is)), λ _. refl),
       ))
 
   -- What holds of a view that is not inside holds of it when the history is longer, and when the next ticket is served.
-  older : {served : ℕ} {log : List I} {lists : Lists} (served' : ℕ) (more : List I) (lists' : Lists) (u : Place I) → (u.inside ≡ true → ⊥) → Fits count served log lists u → Fits count served' (log ++ more) lists' u
+  older : {served : ℕ} {log : List I} {lists : Lists} (served' : ℕ) (more : List I) (lists' : Lists) (u : View I) → (u.inside ≡ true → ⊥) → Fits count served log lists u → Fits count served' (log ++ more) lists' u
   older {log = log} served' more lists' u out fits = record {
     idle = fits.idle;
     sized = fits.sized;
@@ -377,7 +377,7 @@ module _ {S I : Type 0} (history : S → List I) (live dying : S → List ℕ) (
       )
 
   -- Other views that count for the same keep the rule: no word, slot, history or list changes.
-  count_on : (s : State S (Place I)) (r : T s) (us : List (Place I)) → CountSame us s.views → ((id : ℕ) (v : Place I) → get_elem? us id ≡ some v → Fits count r.served r.log r.lists v) → T record { words = s.words; homes = s.homes; views = us }
+  count_on : (s : State S (View I)) (r : T s) (us : List (View I)) → CountSame us s.views → ((id : ℕ) (v : View I) → get_elem? us id ≡ some v → Fits count r.served r.log r.lists v) → T record { words = s.words; homes = s.homes; views = us }
   count_on s r us same each = record {
     served = r.served;
     drawn = r.drawn;
@@ -398,11 +398,11 @@ module _ {S I : Type 0} (history : S → List I) (live dying : S → List ℕ) (
   }
 
   -- The seat has seen the longer of what two had seen.
-  saw : (s : State S (Place I)) (r : T s) (id : ℕ) (v : Place I) → get_elem? s.views id ≡ some v → v.inside ≡ false → (l : List I) → IsPrefix l r.log → T record { words = s.words; homes = s.homes; views = set s.views id record v { seen = l; also = [] } }
+  saw : (s : State S (View I)) (r : T s) (id : ℕ) (v : View I) → get_elem? s.views id ≡ some v → v.inside ≡ false → (l : List I) → IsPrefix l r.log → T record { words = s.words; homes = s.homes; views = set s.views id record v { seen = l; also = [] } }
   saw s r id v at not_inside l pre =
-      let w : Place I = record v { seen = l; also = [] } in
+      let w : View I = record v { seen = l; also = [] } in
       let fits = r.each id v at in
-      let same : (f : Place I → ℕ) → f w ≡ f v → total f (set s.views id w) ≡ total f s.views = λ f is. total_same f s.views id v w at is in
+      let same : (f : View I → ℕ) → f w ≡ f v → total f (set s.views id w) ≡ total f s.views = λ f is. total_same f s.views id v w at is in
       count_on s r (set s.views id w)
       record { shares = same share refl; tickets = λ t. same (has_ticket t) refl; waiting = same waits refl; within = same is_inside refl; owned = λ p. same (owns p) refl; held = λ c. same (holds c) refl; owed = λ c. same (owes c) refl }
       (each_set (Fits count r.served r.log r.lists) s.views id w
@@ -439,13 +439,13 @@ module _ {S I : Type 0} (history : S → List I) (live dying : S → List ℕ) (
       ))
 
   -- One share is cut off.
-  pub split_step : (id : ℕ) (v : Place I) → v.queued ≡ false → v.inside ≡ false → 2 ≤ v.share → Splits T id v (first_part v) (second_part v)
+  pub split_step : (id : ℕ) (v : View I) → v.queued ≡ false → v.inside ≡ false → 2 ≤ v.share → Splits T id v (first_part v) (second_part v)
   split_step id v not_queued not_inside two s r at =
       let w = first_part v in
       let u = second_part v in
       let fits = r.each id v at in
-      let vs : List (Place I) = set s.views id w in
-      let both : (f : Place I → ℕ) → f w ≡ f v → f u ≡ 0 → total f (vs ++ u ∷ []) ≡ total f s.views = λ f same none. let a = total_snoc f vs u in let b = total_same f s.views id v w at same in omega arith in
+      let vs : List (View I) = set s.views id w in
+      let both : (f : View I → ℕ) → f w ≡ f v → f u ≡ 0 → total f (vs ++ u ∷ []) ≡ total f s.views = λ f same none. let a = total_snoc f vs u in let b = total_same f s.views id v w at same in omega arith in
       let shares_are : total share (vs ++ u ∷ []) ≡ total share s.views = let a = total_snoc share vs u in let b = total_set share s.views id v w at in omega arith in
       count_on s r (vs ++ u ∷ [])
       record { shares = shares_are; tickets = λ t. both (has_ticket t) refl refl; waiting = both waits refl refl; within = both is_inside refl refl; owned = λ p. both (owns p) refl refl; held = λ c. both (holds c) refl refl; owed = λ c. both (owes c) refl refl }
@@ -472,15 +472,15 @@ module _ {S I : Type 0} (history : S → List I) (live dying : S → List ℕ) (
       r.each))
 
   -- Another seat is taken in.
-  pub join_step : (id : ℕ) (v : Place I) (other : ℕ) (w : Place I) → v.queued ≡ false → v.inside ≡ false → 0 < v.share → w.queued ≡ false → w.inside ≡ false → ((c : ℕ) → count_of c v.holds + count_of c w.holds ≤ 1)
+  pub join_step : (id : ℕ) (v : View I) (other : ℕ) (w : View I) → v.queued ≡ false → v.inside ≡ false → 0 < v.share → w.queued ≡ false → w.inside ≡ false → ((c : ℕ) → count_of c v.holds + count_of c w.holds ≤ 1)
       → Joins T id v other w (both_parts v w) no_part
   join_step id v other w v_out v_not part w_out w_not apart s r at ne at_other =
       let b = both_parts v w in
-      let vs : List (Place I) = set s.views id b in
+      let vs : List (View I) = set s.views id b in
       let there = sym (set_else s.views id other b ne) ∙ at_other in
       let mine = r.each id v at in
       let theirs = r.each other w there in
-      let taken : (f : Place I → ℕ) → f b ≡ f v + f w → f no_part ≡ 0 → total f (set vs other no_part) ≡ total f s.views = λ f sum none. let x = total_set f s.views id v b at in let y = total_set f vs other w no_part at_other in omega arith in
+      let taken : (f : View I → ℕ) → f b ≡ f v + f w → f no_part ≡ 0 → total f (set vs other no_part) ≡ total f s.views = λ f sum none. let x = total_set f s.views id v b at in let y = total_set f vs other w no_part at_other in omega arith in
       count_on s r (set vs other no_part)
       record {
         shares = taken share refl refl;
@@ -532,7 +532,7 @@ module _ {S I : Type 0} (history : S → List I) (live dying : S → List ℕ) (
         line = refl;
         home = λ _. (y, refl, none_yet, λ i. record { live = no_live i; dying = no_dying i; to_link = []; to_unlink = [] });
         once = λ p. sym (between_out 0 0 p (λ _. omega arith));
-        each = λ id v at. subst (λ (u : Place I). Fits count 0 [] record { live = []; dying = []; to_link = []; to_unlink = [] } u) (one_of (whole count) v id at)
+        each = λ id v at. subst (λ (u : View I). Fits count 0 [] record { live = []; dying = []; to_link = []; to_unlink = [] } u) (one_of (whole count) v id at)
             record {
               idle = λ z. absurd (omega arith);
               sized = λ _. refl;
@@ -553,7 +553,7 @@ module _ {S I : Type 0} (history : S → List I) (live dying : S → List ℕ) (
       one_of a b (suc i) e = absurd (some-ne-none b (sym e))
 
   -- At the end, with the seat that has the whole share.
-  pub closes : (id : ℕ) (v : Place I) (y : S) (ws : List ℕ) (xs : List S) → v.share ≡ 4294967296 → v.inside ≡ false → Final (Seen T id v) ws xs → get_elem? xs 0 ≡ some y
+  pub closes : (id : ℕ) (v : View I) (y : S) (ws : List ℕ) (xs : List S) → v.share ≡ 4294967296 → v.inside ≡ false → Final (Seen T id v) ws xs → get_elem? xs 0 ≡ some y
       → IsPrefix v.seen (history y) × IsWhole (history y) v.own × ((c : ℕ) → has c (dying y) ≡ 1 → 0 < count_of c v.holds + count_of c v.owes)
   closes id v y ws xs all not_inside final there =
       let s = final.0 in
@@ -580,10 +580,10 @@ module _ {S I : Type 0} (history : S → List I) (live dying : S → List ℕ) (
       )
 
   -- One cell's word changes, with what the seat holds and owes and with what it has left to link and to unlink.
-  pub cell_step : (s : State S (Place I)) (r : T s) (id : ℕ) (v : Place I) → get_elem? s.views id ≡ some v → 0 < v.share → (d n : ℕ) (held owed to_link to_unlink : List ℕ) (lists' : Lists)
+  pub cell_step : (s : State S (View I)) (r : T s) (id : ℕ) (v : View I) → get_elem? s.views id ≡ some v → 0 < v.share → (d n : ℕ) (held owed to_link to_unlink : List ℕ) (lists' : Lists)
       → (total is_inside s.views ≡ 0 → lists' ≡ r.lists)
       → (v.inside ≡ true → lists_of (holding v held owed to_link to_unlink) ≡ lists')
-      → ((j : ℕ) (u : Place I) → j ≢ id → get_elem? s.views j ≡ some u → u.inside ≡ true → lists' ≡ r.lists)
+      → ((j : ℕ) (u : View I) → j ≢ id → get_elem? s.views j ≡ some u → u.inside ≡ true → lists' ≡ r.lists)
       → ((c : ℕ) → count_of c held ≤ 1)
       → AreCells count lists' (set s.words (3 + d) n) (λ c. total (holds c) (set s.views id (holding v held owed to_link to_unlink))) (λ c. total (owes c) (set s.views id (holding v held owed to_link to_unlink)))
       → T record { words = set s.words (3 + d) n; homes = s.homes; views = set s.views id (holding v held owed to_link to_unlink) }

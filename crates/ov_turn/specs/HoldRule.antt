@@ -2,7 +2,7 @@
 use Rattle.std.specs.Prelude.{◌≡◌, ℕ, ◌+◌, ◌*◌, ◌<◌, ◌≤◌, List, slice_index}
 use Rattle.ov_base.specs.Sums.{count_of}
 use Rattle.ov_turn.specs.Lists.{has}
-use Rattle.ov_turn.specs.Places.{Lists}
+use Rattle.ov_turn.specs.Views.{Lists}
 
 -- One cell: whether it is listed live, dying, left to link and left to unlink (1 or 0), its word, how many seats hold it, and how many owe its release
 pub record IsCell (count c live dying to_link to_unlink word held owed : ℕ) : Type 0 where

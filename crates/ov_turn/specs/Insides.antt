@@ -2,15 +2,15 @@
 use Rattle.std.specs.Prelude.{◌≡◌, ℕ, List, refl}
 use Rattle.atomic_table.specs.Lent.{seat_with}
 use Rattle.ov_turn.specs.declared.kept.Kept.{Ghosts}
-use Rattle.ov_turn.specs.declared.turn.Turn.{Turn}
-use Rattle.ov_turn.specs.declared.turn.TurnSeat.{TurnSeat}
+use Rattle.ov_turn.specs.declared.lock.TicketLock.{TicketLock}
+use Rattle.ov_turn.specs.declared.lock.LockSeat.{LockSeat}
 use Rattle.ov_turn.specs.declared.inside.Inside.{Inside}
 use Rattle.ov_turn.specs.Slots.{kept_in}
 
 module _ {S I : Type 0} where
   -- the seat is inside this lock
-  abbrev pub IsIn : Turn S I → Inside S I → Type 0
-  IsIn turn it = it.seat.table_id ≡ turn.table.shared.table_id
+  abbrev pub IsIn : TicketLock S I → Inside S I → Type 0
+  IsIn lock it = it.seat.table_id ≡ lock.table.shared.table_id
 
   -- the seat's part of the 4294967296 shares
   abbrev pub share_in : Inside S I → ℕ
@@ -58,7 +58,7 @@ module _ {S I : Type 0} where
 
   -- the same seat with the kept value w
   abbrev pub inside_with : Inside S I → S → Inside S I
-  inside_with it w = record { turn = it.turn; seat = seat_with it.seat 0 w; here = it.here; slot = (refl, it.slot.1); place = it.place; fit = it.fit }
+  inside_with it w = record { lock = it.lock; seat = seat_with it.seat 0 w; here = it.here; slot = (refl, it.slot.1); place = it.place; fit = it.fit }
 
   -- the same lock, with the same share
   abbrev pub IsSame : Inside S I → Inside S I → Type 0
@@ -76,5 +76,5 @@ module _ {S I : Type 0} where
 
 module _ {S I : Type 0} {K : Ghosts S I} where
   -- the seat is one of the lock that it was inside
-  abbrev pub IsBackFrom : Inside S I → TurnSeat S I K → Type 0
+  abbrev pub IsBackFrom : Inside S I → LockSeat S I K → Type 0
   IsBackFrom it seat = seat.seat.table_id ≡ it.seat.table_id

@@ -1,5 +1,5 @@
 pub mod Lists
-pub mod Places
+pub mod Views
 pub mod HoldRule
 pub mod TurnRule
 pub mod Slots

@@ -7,8 +7,8 @@ ghost use Rattle.ov_turn.specs.Insides.{IsSteady, cells_in};
 
 use crate::inside::Inside;
 use crate::kept::Kept;
-use crate::place::{CELLS, Place};
-use crate::turn::{Turn, TurnSeat};
+use crate::lock::{LockSeat, TicketLock};
+use crate::view::{CELLS, View};
 use atomic_table::Play;
 use std::marker::PhantomData;
 
@@ -17,7 +17,7 @@ pub(crate) struct OnInside<M> {
     step: PhantomData<M>,
 }
 
-impl<S, I, M: Play<S, Place<I>>> Play<S, Place<I>> for OnInside<M> {
+impl<S, I, M: Play<S, View<I>>> Play<S, View<I>> for OnInside<M> {
     ghost then = { stays_inside M.then };
 }
 
@@ -26,12 +26,12 @@ pub(crate) struct OnOutside<M> {
     step: PhantomData<M>,
 }
 
-impl<S, I, M: Play<S, Place<I>>> Play<S, Place<I>> for OnOutside<M> {
+impl<S, I, M: Play<S, View<I>>> Play<S, View<I>> for OnOutside<M> {
     ghost then = { stays_outside M.then };
 }
 
 /// Adds `k` to the cell's word, and answers what the word was.
-pub fn add_inside<S: Kept, M: Play<S, Place<S::Item>>>(
+pub fn add_inside<S: Kept, M: Play<S, View<S::Item>>>(
     inside: &mut Inside<'_, S>,
     cell: u32,
     k: u64,
@@ -42,12 +42,12 @@ pub fn add_inside<S: Kept, M: Play<S, Place<S::Item>>>(
     ensures step { added M.then inside.old cell k result inside.new }
 {
     let word = CELLS + cell as usize;
-    let shared = &inside.turn.table.shared;
+    let shared = &inside.lock.table.shared;
     shared.fetch_add::<OnInside<M>>(&mut inside.seat, word, k)
 }
 
 /// Subtracts `k` from the cell's word, and answers what the word was.
-pub fn sub_inside<S: Kept, M: Play<S, Place<S::Item>>>(
+pub fn sub_inside<S: Kept, M: Play<S, View<S::Item>>>(
     inside: &mut Inside<'_, S>,
     cell: u32,
     k: u64,
@@ -58,25 +58,25 @@ pub fn sub_inside<S: Kept, M: Play<S, Place<S::Item>>>(
     ensures step { subtracted M.then inside.old cell k result inside.new }
 {
     let word = CELLS + cell as usize;
-    let shared = &inside.turn.table.shared;
+    let shared = &inside.lock.table.shared;
     shared.fetch_sub::<OnInside<M>>(&mut inside.seat, word, k)
 }
 
 /// Subtracts `k` from the cell's word for a seat outside, and answers what the word was.
-pub fn sub_outside<S: Kept, M: Play<S, Place<S::Item>>>(
-    turn: &Turn<S>,
-    seat: &mut TurnSeat<S>,
+pub fn sub_outside<S: Kept, M: Play<S, View<S::Item>>>(
+    lock: &TicketLock<S>,
+    seat: &mut LockSeat<S>,
     cell: u32,
     k: u64,
 ) -> u64
-    requires seat { IsSeatOf turn.now seat.old }
-    requires cell { cell < cells_of turn.now }
-    requires step { MayReturn S.history S.live S.dying M.then turn.now seat.old cell k }
-    ensures seat { IsSeatOf turn.entry.now seat.new }
-    ensures step { returned M.then turn.entry.now seat.old cell k result seat.new }
+    requires seat { IsSeatOf lock.now seat.old }
+    requires cell { cell < cells_of lock.now }
+    requires step { MayReturn S.history S.live S.dying M.then lock.now seat.old cell k }
+    ensures seat { IsSeatOf lock.entry.now seat.new }
+    ensures step { returned M.then lock.entry.now seat.old cell k result seat.new }
 {
     let word = CELLS + cell as usize;
-    turn.table
+    lock.table
         .shared
         .fetch_sub::<OnOutside<M>>(&mut seat.seat, word, k)
 }

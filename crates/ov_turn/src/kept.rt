@@ -1,7 +1,7 @@
 //! What a lock keeps: a value with a history that only grows, and with cells that it lists.
 ghost use Rattle.std.specs.Prelude.{◌≡◌, ℕ, List, length};
 
-/// A value that lies behind a `Turn`.
+/// A value that lies behind a `TicketLock`.
 pub trait Kept: Send {
     /// An entry of the history.
     type Item;

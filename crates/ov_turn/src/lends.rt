@@ -15,7 +15,7 @@ impl<S: Kept> Inside<'_, S> {
         ensures* writes_back { sem 𝓛 (follows (the_row (record { mir = named 1; lft = [] }) S.row S.Item.row S.Kept) S.row self.entry.ghost_name result.ghost_name (inside_with self.old)) }
         ensures value { result.now ≡ kept_of self.old }
     {
-        let turn = self.turn;
-        self.seat.slot_mut(&turn.table.shared, 0)
+        let lock = self.lock;
+        self.seat.slot_mut(&lock.table.shared, 0)
     }
 }

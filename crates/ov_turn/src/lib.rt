@@ -5,12 +5,12 @@ pub mod cells;
 mod inside;
 mod kept;
 mod lends;
-mod place;
+mod lock;
 #[cfg(test)]
 mod tests;
-mod turn;
+mod view;
 
 pub use inside::Inside;
 pub use kept::Kept;
-pub use place::Place;
-pub use turn::{Turn, TurnSeat};
+pub use lock::{LockSeat, TicketLock};
+pub use view::View;

@@ -2,7 +2,7 @@
 ghost use Rattle.std.specs.Prelude.{◌≡◌, [], ◌∷◌, ◌++◌, MatchBool};
 ghost use Rattle.ov_turn.specs.Seats.{IsSeatOf, share_of, holds_of};
 
-use crate::{Kept, Turn, TurnSeat};
+use crate::{Kept, LockSeat, TicketLock};
 use ov_base::ListOf;
 use std::marker::Model;
 use std::sync::Wait;
@@ -50,16 +50,16 @@ impl Kept for Notes {
 /// Takes the lock, notes a number and leaves, and says whether there was memory for it.
 fn note<R: Wait>(
     rt: &R,
-    turn: &Turn<Notes>,
-    seat: TurnSeat<Notes>,
+    lock: &TicketLock<Notes>,
+    seat: LockSeat<Notes>,
     number: u32,
-) -> (TurnSeat<Notes>, bool)
-    requires { IsSeatOf turn.now seat }
-    ensures turn { IsSeatOf turn.entry.now result.0 }
+) -> (LockSeat<Notes>, bool)
+    requires { IsSeatOf lock.now seat }
+    ensures lock { IsSeatOf lock.entry.now result.0 }
     ensures share { share_of result.0 ≡ share_of seat }
     ensures holds { holds_of result.0 ≡ holds_of seat }
 {
-    let mut inside = turn.enter(rt, seat);
+    let mut inside = lock.enter(rt, seat);
     let noted = inside.kept().add(number);
     if noted {
         inside.append();
@@ -68,13 +68,13 @@ fn note<R: Wait>(
 }
 
 /// Takes the lock, counts the numbers and leaves.
-fn count<R: Wait>(rt: &R, turn: &Turn<Notes>, seat: TurnSeat<Notes>) -> (TurnSeat<Notes>, u64)
-    requires { IsSeatOf turn.now seat }
-    ensures turn { IsSeatOf turn.entry.now result.0 }
+fn count<R: Wait>(rt: &R, lock: &TicketLock<Notes>, seat: LockSeat<Notes>) -> (LockSeat<Notes>, u64)
+    requires { IsSeatOf lock.now seat }
+    ensures lock { IsSeatOf lock.entry.now result.0 }
     ensures share { share_of result.0 ≡ share_of seat }
     ensures holds { holds_of result.0 ≡ holds_of seat }
 {
-    let mut inside = turn.enter(rt, seat);
+    let mut inside = lock.enter(rt, seat);
     let length = inside.kept().length();
     (inside.leave(), length)
 }
@@ -84,14 +84,14 @@ fn what_one_seat_appends_the_next_one_sees(rt: HostRuntime) -> Result<(), Fail> 
     let none = Notes {
         numbers: ListOf::new(rt.alloc()),
     };
-    let Ok((turn, seat)) = Turn::new(rt.alloc(), none, 2) else {
+    let Ok((lock, seat)) = TicketLock::new(rt.alloc(), none, 2) else {
         return Err("there is memory for a lock".into());
     };
-    let (one, two) = turn.split(seat);
-    let (one, noted) = note(&rt, &turn, one, 7);
-    let (two, seen) = count(&rt, &turn, two);
-    let seat = turn.join(one, two);
-    let notes = turn.close(seat);
+    let (one, two) = lock.split(seat);
+    let (one, noted) = note(&rt, &lock, one, 7);
+    let (two, seen) = count(&rt, &lock, two);
+    let seat = lock.join(one, two);
+    let notes = lock.close(seat);
     assert!(rt; noted);
     assert_eq!(rt; seen, 1);
     assert_eq!(rt; notes.numbers.as_slice(), [7].as_slice());

@@ -3,7 +3,7 @@
 ghost use Rattle.std.specs.Prelude.{◌≤◌, length, IfOk};
 ghost use Rattle.ov_model.specs.Sizes.{Fits};
 ghost use Rattle.ov_path.specs.Plain.{shown_of, hop_or};
-ghost use Rattle.ov_path.specs.Walks.{Walking, IsOpen, Progressed};
+ghost use Rattle.ov_path.specs.Walks.{Stands, IsOpen, Turned};
 
 use super::plain::Plain;
 use super::told::{Kind, Told};
@@ -129,11 +129,11 @@ fn netlink(op: NlOp, peer: Option<NlPeer>) -> Line
 
 /// Makes one turn of a line. The desk's next hops stay.
 fn turn(alloc: Global, desk: &mut Plain, walk: &mut Walk, line: &Line) -> Result<Progress, Memory>
-    requires at { Walking (hop_or desk.old.hop) walk.old.place line.now (shown_of desk.old) walk.old.stage }
+    requires at { Stands (hop_or desk.old.hop) line.now (shown_of desk.old) walk.old }
     requires open { IsOpen walk.old.stage (shown_of desk.old).owing }
     requires fits { Fits line.now.deed }
     ensures then { IfOk result (λ r.
-        Progressed (hop_or desk.new.hop) walk.new.place line.now (shown_of desk.new) walk.new.stage r) }
+        Turned (hop_or desk.new.hop) line.now (shown_of desk.new) walk.new r) }
 {
     let progress = walk.turn(alloc, desk, line)?;
     Ok(progress)

@@ -15,13 +15,8 @@ use crate::retired::{retire, retire_all};
 use crate::room::push_within;
 use ov_base::{ListOf, Memory};
 use ov_keys::KeyRec;
+use ov_model::limits::{MOST_KEYS, MOST_PEERS};
 use ov_model::{Attrs, Command, Errno, KeyConf, NoteBody, PeerId, Reason, Reply};
-
-/// How many peers may be made.
-const MOST_PEERS: u32 = 4096;
-
-/// How many keys may be made.
-const MOST_KEYS: u32 = 65536;
 
 impl Peers {
     /// One command at the moment `now`.

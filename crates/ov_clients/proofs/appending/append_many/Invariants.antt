@@ -3,4 +3,4 @@ use Rattle.ov_clients.specs.Entries.{HasAppended}
 use Rattle.ov_clients.proofs.appending.append_many.Given as goal
 
 abbrev pub invariant-loop-number : goal.invariant-loop-number
-invariant-loop-number g l = HasAppended l.turn (share_of l.fn.seat) l.thread l.number l.seat
+invariant-loop-number g l = HasAppended l.lock (share_of l.fn.seat) l.thread l.number l.seat

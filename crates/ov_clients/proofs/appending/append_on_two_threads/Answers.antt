@@ -11,8 +11,8 @@ pub returns : goal.returns
 returns g c =
     let one = c.join-one.result.0.0 in
     let two = c.join-one.result.1.0 in
-    let a : HasAppended c.in-Ok.turn (share_of c.split-one.result.0) 1 c.join-one.result.0.1 one = search rules in
-    let b : HasAppended c.in-Ok.turn (share_of c.split-one.result.1) 2 c.join-one.result.1.1 two = search rules in
+    let a : HasAppended c.in-Ok.lock (share_of c.split-one.result.0) 1 c.join-one.result.0.1 one = search rules in
+    let b : HasAppended c.in-Ok.lock (share_of c.split-one.result.1) 2 c.join-one.result.1.1 two = search rules in
     let log : List Entry = c.close-journal.result in
     let seen = prefix_length (seen_of c.join-seat.result) log c.close-journal.ensures.seen in
     let first : length (seen_of one) ≤ length log = omega (arith, prefix_length (seen_of one) (seen_of c.join-seat.result) c.join-seat.ensures.seen.0) in

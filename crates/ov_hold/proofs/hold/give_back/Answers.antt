@@ -12,7 +12,7 @@ sub_outside-found-requires-clause-cell g c κs within =
     let it = c.args.seat.now in
     let small = held_small it.seat.me.0 c.args.cell it.fit.0 c.requires.holds in
     let mine = it.fit.1 in
-    let theirs = c.args.turn.now.sized.0 in
+    let theirs = c.args.lock.now.sized.0 in
     let same = ap (λ z. z.words) c.requires.seat in
     omega arith
 

@@ -9,8 +9,8 @@ returns-then-id-eq0 c l m s = grind (arith, nat_tests, verdict_rows l c.args.id 
 pub returns-then-id-self : goal.returns-then-id-self
 returns-then-id-self c l m s = grind (arith, nat_tests, verdict_rows l c.args.id m, s.highest)
 
-pub returns-then-self-id-ge-PLACES : goal.returns-then-self-id-ge-PLACES
-returns-then-self-id-ge-PLACES c l m s = grind (arith, nat_tests, verdict_rows l c.args.id m, s.highest)
+pub returns-then-self-id-ge-WINDOW_PLACES : goal.returns-then-self-id-ge-WINDOW_PLACES
+returns-then-self-id-ge-WINDOW_PLACES c l m s = grind (arith, nat_tests, verdict_rows l c.args.id m, s.highest)
 
 pub returns-then-id-floor_now : goal.returns-then-id-floor_now
 returns-then-id-floor_now c l m s = grind (arith, nat_tests, verdict_rows l c.args.id m, s.highest, c.floor_now.ensures l m s)

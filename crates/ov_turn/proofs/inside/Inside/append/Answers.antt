@@ -1,7 +1,7 @@
 use Rattle.std.proofs.Common.{◌+◌, ◌<◌, [], ◌∷◌, ◌++◌, length, sym, ap, ◌∙◌, arith}
 use Rattle.atomic_table.specs.Table.{rest}
 use Rattle.ov_turn.specs.Lists.{newly, still}
-use Rattle.ov_turn.specs.Places.{holds_fit}
+use Rattle.ov_turn.specs.Views.{holds_fit}
 use Rattle.ov_turn.specs.Slots.{front}
 use Rattle.ov_turn.specs.Insides.{kept_of}
 use Rattle.ov_turn.proofs.Slots.{slot_again, slot_back, kept_same}
@@ -28,8 +28,8 @@ invariant_of-self g c =
       fit = (ap (λ m. holds_fit m.0) told.0 ∙ it.fit.0, told.1, ap (λ m. 3 + m.0.cells) told.0 ∙ it.fit.2 ∙ sym (ap (λ z. z.words) c.fetch_add.ensures.0));
     }
 
-pub returns-clause-turn : goal.returns-clause-turn
-returns-clause-turn g c = let it = c.args.self.now in let told = c.fetch_add.ensures.2 (kept_of it) c.requires.history.0 (slot_again it.seat.me.1 it.slot.0 it.slot.1 _ c.kept.ensures.value) c.requires.history.1 in (c.fetch_add.ensures.0, ap (λ m. m.0.share) told.0, ap (λ m. m.0.cells) told.0)
+pub returns-clause-lock : goal.returns-clause-lock
+returns-clause-lock g c = let it = c.args.self.now in let told = c.fetch_add.ensures.2 (kept_of it) c.requires.history.0 (slot_again it.seat.me.1 it.slot.0 it.slot.1 _ c.kept.ensures.value) c.requires.history.1 in (c.fetch_add.ensures.0, ap (λ m. m.0.share) told.0, ap (λ m. m.0.cells) told.0)
 
 pub returns-clause-kept : goal.returns-clause-kept
 returns-clause-kept g c = let it = c.args.self.now in let told = c.fetch_add.ensures.2 (kept_of it) c.requires.history.0 (slot_again it.seat.me.1 it.slot.0 it.slot.1 _ c.kept.ensures.value) c.requires.history.1 in kept_same _ _ _ it.slot.0 (ap (λ m. m.1) told.0 ∙ slot_back it.seat.me.1 it.slot.0 c.kept.result.now c.kept.ensures.value)

@@ -1,6 +1,6 @@
 use Rattle.std.proofs.Common.{rules}
 use Rattle.ov_turn.proofs.Turning.{closes}
-use Rattle.ov_turn.proofs.turn.Turn.close.Goals as goal
+use Rattle.ov_turn.proofs.lock.TicketLock.close.Goals as goal
 
 pub returns-clause-seen : goal.returns-clause-seen
 returns-clause-seen g c = (closes g.S.Kept.history g.S.Kept.live g.S.Kept.dying _ _ _ _ _ _ c.requires.whole (search rules) c.close_with-closed.ensures.values.2 c.take-kept.ensures.value).0

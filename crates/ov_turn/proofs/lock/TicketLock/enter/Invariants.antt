@@ -1,6 +1,6 @@
 use Rattle.std.proofs.Common.{◌≡◌, ℕ, ◌%◌, ◌^◌, []}
 use Rattle.ov_turn.specs.Steps.{in_line}
-use Rattle.ov_turn.proofs.turn.Turn.enter.Given as goal
+use Rattle.ov_turn.proofs.lock.TicketLock.enter.Given as goal
 
 -- the seat stands in line with its ticket
 abbrev pub invariant-loop : goal.invariant-loop

@@ -1,6 +1,6 @@
 use Rattle.std.proofs.Common.{rules, ap, ◌∙◌, arith}
 use Rattle.ov_turn.proofs.Turning.{queue_step, enter_step}
-use Rattle.ov_turn.proofs.turn.Turn.enter.Goals as goal
+use Rattle.ov_turn.proofs.lock.TicketLock.enter.Goals as goal
 
 pub fetch_add-ticket-requires : goal.fetch_add-ticket-requires
 fetch_add-ticket-requires g c = (search rules, search rules, queue_step g.S.Kept.history g.S.Kept.live g.S.Kept.dying _ _ _ _ (search rules) (search rules) (search rules))

@@ -22,7 +22,7 @@ pub(crate) const LENGTH: usize = 2;
 pub(crate) const CELLS: usize = 3;
 
 /// What a seat knows. No value of it is made: it is what proofs see of a seat.
-pub struct Place<I> {
+pub struct View<I> {
     /// The number of the table's cells.
     pub cells: u64,
     /// Its part of the 4294967296 shares; 0 where another seat took it in.
@@ -56,7 +56,7 @@ pub struct Place<I> {
 /// The rule of the table's words.
 pub(crate) struct TurnRule;
 
-impl<S: Kept> TableRule<S, Place<S::Item>, u64> for TurnRule {
+impl<S: Kept> TableRule<S, View<S::Item>, u64> for TurnRule {
     ghost holds = { λ count s. IsTurned S.history S.live S.dying count s };
 
     ghost first = { λ count. whole count };
@@ -65,42 +65,42 @@ impl<S: Kept> TableRule<S, Place<S::Item>, u64> for TurnRule {
 /// Draws a ticket.
 pub(crate) struct Queue;
 
-impl<S, I> Play<S, Place<I>> for Queue {
+impl<S, I> Play<S, View<I>> for Queue {
     ghost then = { queues };
 }
 
 /// Finds out whether the seat's ticket is served, and takes the kept value if so.
 pub(crate) struct Enter;
 
-impl<S: Kept> Play<S, Place<S::Item>> for Enter {
+impl<S: Kept> Play<S, View<S::Item>> for Enter {
     ghost then = { enters S.history S.live S.dying };
 }
 
 /// Counts one more entry.
 pub(crate) struct Append;
 
-impl<S: Kept> Play<S, Place<S::Item>> for Append {
+impl<S: Kept> Play<S, View<S::Item>> for Append {
     ghost then = { appends S.history S.live S.dying };
 }
 
 /// Puts the kept value back, and serves the next ticket.
 pub(crate) struct Leave;
 
-impl<S, I> Play<S, Place<I>> for Leave {
+impl<S, I> Play<S, View<I>> for Leave {
     ghost then = { leaves };
 }
 
 /// Learns which of the two histories that a joined seat had seen is the longer.
 pub(crate) struct Meet;
 
-impl<S, I> Play<S, Place<I>> for Meet {
+impl<S, I> Play<S, View<I>> for Meet {
     ghost then = { meets };
 }
 
 /// Cuts one share off.
 pub(crate) struct Cut;
 
-impl<I> Split<Place<I>> for Cut {
+impl<I> Split<View<I>> for Cut {
     ghost left = { first_part };
 
     ghost right = { second_part };
@@ -109,7 +109,7 @@ impl<I> Split<Place<I>> for Cut {
 /// Takes another seat in.
 pub(crate) struct Glue;
 
-impl<I> Join<Place<I>> for Glue {
+impl<I> Join<View<I>> for Glue {
     ghost both = { both_parts };
 
     ghost spent = { no_part };

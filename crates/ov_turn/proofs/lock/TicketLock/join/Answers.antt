@@ -1,9 +1,9 @@
 use Rattle.std.proofs.Common.{rules, ◌≡◌, ℕ, ◌+◌, true, sym, ap, subst, ◌∙◌, arith}
 use Rattle.ov_turn.specs.Lists.{all_below}
-use Rattle.ov_turn.specs.Places.{holds_fit}
+use Rattle.ov_turn.specs.Views.{holds_fit}
 use Rattle.ov_turn.proofs.Members.{below_append}
 use Rattle.ov_turn.proofs.Turning.{join_step, meet_step}
-use Rattle.ov_turn.proofs.turn.Turn.join.Goals as goal
+use Rattle.ov_turn.proofs.lock.TicketLock.join.Goals as goal
 
 pub join_seat-requires : goal.join_seat-requires
 join_seat-requires g c = (search rules, search rules, search rules, search rules, join_step g.S.Kept.history g.S.Kept.live g.S.Kept.dying _ _ _ _ _ (search rules) (search rules) (search rules) (search rules) (search rules) c.requires.apart)

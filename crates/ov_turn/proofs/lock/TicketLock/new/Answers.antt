@@ -2,7 +2,7 @@ use Rattle.std.proofs.Common.{◌≡◌, ℕ, ◌+◌, List, [], ◌∷◌, ◌+
 use Rattle.atomic_table.specs.Table.{opening}
 use Rattle.ov_turn.specs.TurnRule.{whole}
 use Rattle.ov_turn.proofs.Turning.{T, opens}
-use Rattle.ov_turn.proofs.turn.Turn.new.Goals as goal
+use Rattle.ov_turn.proofs.lock.TicketLock.new.Goals as goal
 
 pub new-requires : goal.new-requires
 new-requires g c =
