@@ -2,6 +2,7 @@
 #![tactic(auto)]
 
 pub mod address;
+pub mod boxed;
 pub mod failures;
 mod front;
 pub mod list;
@@ -19,6 +20,7 @@ pub mod write_sink;
 pub mod writing;
 
 pub use address::{Addr, Transport};
+pub use boxed::Boxed;
 pub use failures::Failures;
 pub use list::{ListOf, Octets};
 pub use memory::Memory;

@@ -1,7 +1,7 @@
 ghost use Rattle.std.specs.Prelude.{◌≡◌, ◌<◌, ◌≤◌, length, IfOk};
 
 use crate::{
-    Addr, Got, ListOf, Memory, MemorySink, MemorySource, Octets, ReadSource, Sink, Source,
+    Addr, Boxed, Got, ListOf, Memory, MemorySink, MemorySource, Octets, ReadSource, Sink, Source,
     SteadySink, SteadySource, Took, Transport, WriteFault, WriteSink, write_all,
 };
 use std::alloc::Global;
@@ -29,6 +29,16 @@ fn a_list_keeps_its_items_in_order(rt: HostRuntime) -> Result<(), Fail> {
     let copy = Octets::of(rt.alloc(), list.as_slice())?;
     assert!(rt; copy == list);
     assert_eq!(rt; list.into_vec().as_slice(), [3, 9, 2].as_slice());
+    Ok(())
+}
+
+#[test]
+fn a_boxed_value_is_the_value(rt: HostRuntime) -> Result<(), Fail> {
+    let boxed = Boxed::new(rt.alloc(), [3, 1, 2])?;
+    let other = Boxed::new(rt.alloc(), [3, 9, 2])?;
+    assert_eq!(rt; boxed.get(), &[3, 1, 2]);
+    assert!(rt; boxed != other);
+    assert_eq!(rt; other.into_inner(), [3, 9, 2]);
     Ok(())
 }
 

@@ -1,13 +1,13 @@
 //! The lines of a script.
 
 use crate::netlink::NlMessage;
-use ov_base::{ListOf, Octets, Transport};
+use ov_base::{Boxed, ListOf, Octets, Transport};
 
 /// What a line asks for.
 #[derive(Debug, Drop, PartialEq, Eq)]
 pub enum Deed {
-    /// A netlink message.
-    Netlink(NlMessage),
+    /// A netlink message, behind a pointer, since it is many times as big as the rest of a line.
+    Netlink(Boxed<NlMessage>),
     /// An inner packet comes from the device and is to be sent, at most 65,483 bytes.
     Tx(Octets),
     /// A datagram comes from a transport, at most 65,507 bytes.

@@ -2,7 +2,7 @@
 
 use crate::command::Keepalive;
 use crate::ident::{KeyId, PeerId};
-use ov_base::{ListOf, Transport};
+use ov_base::{Boxed, ListOf, Transport};
 
 /// Why a command was refused, by the names of Linux's error numbers.
 #[derive(Clone, Copy, Debug, PartialEq, Eq)]
@@ -75,7 +75,8 @@ pub enum Reply {
     /// The serial of the new peer, or of the new key.
     Made(u32),
     Done,
-    Peer(PeerView),
+    /// What a peer is, behind a pointer, since it is many times as big as the other replies.
+    Peer(Boxed<PeerView>),
     /// The serials of the removed peers.
     Removed(ListOf<u32>),
     Hold(HoldView),

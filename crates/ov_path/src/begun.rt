@@ -30,7 +30,7 @@ pub fn begin_of<D: Desk>(desk: &D, deed: &Deed) -> Begun
     ensures begins { begin_told result ≡ begins (D.view desk.now).via deed.now }
 {
     match deed {
-        Deed::Netlink(message) => begin_netlink(message),
+        Deed::Netlink(message) => begin_netlink(message.get()),
         Deed::Tx(packet) => begin_tx(desk, packet.as_slice()),
         Deed::Rx { from, datagram } => begin_rx(*from, datagram.as_slice()),
     }

@@ -1,5 +1,5 @@
 use crate::{answer_line, entry_line, note_line, replay_line};
-use ov_base::{Addr, ListOf, Memory, Octets, Transport};
+use ov_base::{Addr, Boxed, ListOf, Memory, Octets, Transport};
 use ov_model::{
     Act, Answer, Attrs, Call, Command, Counts, DropCause, Entry, Errno, HoldView, InnerKind,
     Keepalive, KeyBytes, KeyConf, KeyDir, KeyId, Note, NoteBody, PeerId, PeerView, Place, Reason,
@@ -335,7 +335,8 @@ fn a_shown_peer_has_its_fourteen_names(rt: HostRuntime) -> Result<(), Fail> {
             link_tx_packets: 0,
         },
     };
-    let line = answer_line(rt.alloc(), 0, 1, &Answer::Reply(Reply::Peer(view)))?;
+    let reply = Reply::Peer(Boxed::new(rt.alloc(), view)?);
+    let line = answer_line(rt.alloc(), 0, 1, &Answer::Reply(reply))?;
     let text =
         "{\"answer\":{\"peer\":{\"id\":5,\"keepalive-interval\":0,\"keepalive-timeout\":0,\"link-rx-bytes\":0,\"link-rx-packets\":0,\"link-tx-bytes\":0,\"link-tx-packets\":0,\"remote-ipv4\":\"192.0.2.1\",\"remote-port\":1194,\"vpn-ipv4\":\"10.8.0.5\",\"vpn-rx-bytes\":0,\"vpn-rx-packets\":0,\"vpn-tx-bytes\":0,\"vpn-tx-packets\":0}},\"lane\":0,\"line\":1}\n";
     assert!(rt; line.as_slice() == text.as_bytes());

@@ -155,7 +155,7 @@ pub(crate) fn append_reply(alloc: Global, page: &mut Vec<u8>, reply: &Reply) -> 
     match reply {
         Reply::Made(serial) => append_closed(page, b"{\"serial\":", *serial as u64, b"}"),
         Reply::Done => append(page, b"{\"ok\":true}"),
-        Reply::Peer(peer) => append_peer(alloc, page, peer),
+        Reply::Peer(peer) => append_peer(alloc, page, peer.get()),
         Reply::Removed(serials) => append_removed(alloc, page, serials.as_slice()),
         Reply::Hold(hold) => append_hold(page, hold),
         Reply::NoPeer => append(page, b"{\"none\":\"no-peer\"}"),

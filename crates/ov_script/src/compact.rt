@@ -25,7 +25,7 @@ pub fn compact_line(alloc: Global, line: &[u8], lanes: u32) -> Result<Option<Lin
     if let Some(received) = rx_line(alloc, line, lanes)? {
         return Ok(Some(received));
     }
-    if let Some(made) = new_line(line, lanes) {
+    if let Some(made) = new_line(alloc, line, lanes)? {
         return Ok(Some(made));
     }
     key_line(alloc, line, lanes)

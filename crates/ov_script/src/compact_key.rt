@@ -8,7 +8,7 @@ ghost use Rattle.ov_script.specs.Grammar.{Says};
 
 use crate::digits::bytes_of;
 use crate::parts::{after, before, number, until_quote};
-use ov_base::Memory;
+use ov_base::{Boxed, Memory};
 use ov_model::ident::MOST_PEER_ID;
 use ov_model::{Cipher, Deed, Line, NlKeyConf, NlKeyDir, NlMessage, NlOp, Slot};
 use std::alloc::Global;
@@ -118,6 +118,6 @@ pub fn key_line(alloc: Global, line: &[u8], lanes: u32) -> Result<Option<Line>, 
     Ok(Some(Line {
         lane: parts.lane,
         at: parts.at,
-        deed: Deed::Netlink(message),
+        deed: Deed::Netlink(Boxed::new(alloc, message)?),
     }))
 }

@@ -1,14 +1,16 @@
 //! Lines that make a peer, by their compact text.
 
-ghost use Rattle.std.specs.Prelude.{◌≡◌, IfSome};
+ghost use Rattle.std.specs.Prelude.{◌≡◌, IfOk, IfSome};
 ghost use Rattle.ov_model.specs.declared.line.Line.{Line};
 ghost use Rattle.ov_script.specs.Compact as spec;
 ghost use Rattle.ov_script.specs.Grammar.{Says};
 
 use crate::parts::{after, before, number, octets_of, until_quote};
+use ov_base::{Boxed, Memory};
 use ov_model::ident::MOST_PEER_ID;
 use ov_model::netlink::NO_ATTRIBUTES;
 use ov_model::{Deed, Line, NlMessage, NlOp, NlPeer};
+use std::alloc::Global;
 
 /// What the text of such a line has in its places: the addresses as text.
 #[derive(Clone, Copy)]
@@ -43,15 +45,18 @@ fn new_parts(line: &[u8]) -> Option<Parts>
 }
 
 /// The line that makes a peer, where the bytes are its compact text.
-pub fn new_line(line: &[u8], lanes: u32) -> Option<Line>
-    ensures { IfSome result (λ read. Says line.now lanes read) }
+pub fn new_line(alloc: Global, line: &[u8], lanes: u32) -> Result<Option<Line>, Memory>
+    ensures { IfOk result (λ found. IfSome found (λ read. Says line.now lanes read)) }
 {
-    let parts = new_parts(line)?;
-    let remote = octets_of(parts.remote)?;
-    let vpn = octets_of(parts.vpn)?;
+    let Some(parts) = new_parts(line) else {
+        return Ok(None);
+    };
+    let (Some(remote), Some(vpn)) = (octets_of(parts.remote), octets_of(parts.vpn)) else {
+        return Ok(None);
+    };
     let is_port = 1 <= parts.port && parts.port <= 65_535;
     if parts.lane >= lanes || parts.id > MOST_PEER_ID || !is_port {
-        return None;
+        return Ok(None);
     }
     let peer = NlPeer {
         id: Some(parts.id),
@@ -66,9 +71,9 @@ pub fn new_line(line: &[u8], lanes: u32) -> Option<Line>
         peer: Some(peer),
         keyconf: None,
     };
-    Some(Line {
+    Ok(Some(Line {
         lane: parts.lane,
         at: parts.at,
-        deed: Deed::Netlink(message),
-    })
+        deed: Deed::Netlink(Boxed::new(alloc, message)?),
+    }))
 }

@@ -14,6 +14,7 @@ use crate::keyconf::conf_of;
 use crate::line::LineStop;
 use crate::member::{address_at, has_only, number_at, text_at};
 use crate::packets::{receipt_of, tx_packet};
+use ov_base::Boxed;
 use ov_model::netlink::NO_ATTRIBUTES;
 use ov_model::{Deed, Line, NlMessage, NlOp, NlPeer};
 use serde_json::Value;
@@ -113,7 +114,8 @@ fn peer_message(op: NlOp, value: &Value) -> Option<NlMessage>
 /// The message of a line that asks for a new key. `Bad` comes exactly where the value is no such line.
 fn key_message(alloc: Global, value: &Value) -> Result<NlMessage, LineStop>
     ensures ok { IfOk result (λ m. spec.key_message (view value.now) ≡ Some m) }
-    ensures bad { IfErr result (λ stop. stop ≡ LineStop.Bad → spec.key_message (view value.now) ≡ None) }
+    ensures bad { IfErr result (λ stop. stop ≡ LineStop.Bad
+        → spec.key_message (view value.now) ≡ None) }
 {
     if !has_only(value, &["at", "do", "keyconf", "lane"]) {
         return Err(LineStop::Bad);
@@ -133,7 +135,8 @@ fn key_message(alloc: Global, value: &Value) -> Result<NlMessage, LineStop>
 /// The message of a line of the netlink family. `Bad` comes exactly where the value is no such line.
 fn message_of(alloc: Global, op: NlOp, value: &Value) -> Result<NlMessage, LineStop>
     ensures ok { IfOk result (λ m. spec.IsMessage op (view value.now) m) }
-    ensures bad { IfErr result (λ stop. stop ≡ LineStop.Bad → (m : NlMessage) → ¬ (spec.IsMessage op (view value.now) m)) }
+    ensures bad { IfErr result (λ stop. stop ≡ LineStop.Bad → (m : NlMessage)
+        → ¬ (spec.IsMessage op (view value.now) m)) }
 {
     if op == NlOp::KeyNew {
         return key_message(alloc, value);
@@ -169,12 +172,13 @@ fn form_at(value: &Value) -> Option<Form>
 /// What a line of a form asks for. `Bad` comes exactly where the value is no line of that form.
 fn deed_with(alloc: Global, form: Form, value: &Value) -> Result<Deed, LineStop>
     ensures ok { IfOk result (λ deed. spec.HasForm form (view value.now) deed) }
-    ensures bad { IfErr result (λ stop. stop ≡ LineStop.Bad → (deed : Deed) → ¬ (spec.HasForm form (view value.now) deed)) }
+    ensures bad { IfErr result (λ stop. stop ≡ LineStop.Bad → (deed : Deed)
+        → ¬ (spec.HasForm form (view value.now) deed)) }
 {
     match form {
         Form::Netlink(op) => {
             let message = message_of(alloc, op, value)?;
-            Ok(Deed::Netlink(message))
+            Ok(Deed::Netlink(Boxed::new(alloc, message)?))
         }
         Form::Tx => {
             let packet = tx_packet(alloc, value)?;
@@ -187,7 +191,8 @@ fn deed_with(alloc: Global, form: Form, value: &Value) -> Result<Deed, LineStop>
 /// What a line asks for. `Bad` comes exactly where the value asks for nothing.
 fn deed_of(alloc: Global, value: &Value) -> Result<Deed, LineStop>
     ensures ok { IfOk result (λ deed. spec.IsDeed (view value.now) deed) }
-    ensures bad { IfErr result (λ stop. stop ≡ LineStop.Bad → (deed : Deed) → ¬ (spec.IsDeed (view value.now) deed)) }
+    ensures bad { IfErr result (λ stop. stop ≡ LineStop.Bad → (deed : Deed)
+        → ¬ (spec.IsDeed (view value.now) deed)) }
 {
     let Some(form) = form_at(value) else {
         return Err(LineStop::Bad);
@@ -198,7 +203,8 @@ fn deed_of(alloc: Global, value: &Value) -> Result<Deed, LineStop>
 /// The line that the value is, on one of `lanes` lanes. `Bad` comes exactly where it is outside the grammar.
 pub fn line_of(alloc: Global, value: &Value, lanes: u32) -> Result<Line, LineStop>
     ensures ok { IfOk result (λ line. spec.IsLine lanes (view value.now) line) }
-    ensures bad { IfErr result (λ stop. stop ≡ LineStop.Bad → (line : Line) → ¬ (spec.IsLine lanes (view value.now) line)) }
+    ensures bad { IfErr result (λ stop. stop ≡ LineStop.Bad → (line : Line)
+        → ¬ (spec.IsLine lanes (view value.now) line)) }
 {
     let Some(at) = number_at(value, "at", 0, u32::MAX) else {
         return Err(LineStop::Bad);

@@ -14,8 +14,10 @@ use std::alloc::Global;
 
 /// The bytes of a key of AES: 16, 24 or 32 (FIPS 197, section 5).
 fn cipher_key(alloc: Global, value: &Value) -> Result<Octets, LineStop>
-    ensures ok { IfOk result (λ key. sized_at spec.is_key_length (codes "cipher-key") (view value.now) ≡ Some key) }
-    ensures bad { IfErr result (λ stop. stop ≡ LineStop.Bad → sized_at spec.is_key_length (codes "cipher-key") (view value.now) ≡ None) }
+    ensures ok { IfOk result (λ key.
+        sized_at spec.is_key_length (codes "cipher-key") (view value.now) ≡ Some key) }
+    ensures bad { IfErr result (λ stop. stop ≡ LineStop.Bad
+        → sized_at spec.is_key_length (codes "cipher-key") (view value.now) ≡ None) }
 {
     let key = bytes_at(alloc, value, "cipher-key")?;
     match key.len() {
@@ -26,8 +28,10 @@ fn cipher_key(alloc: Global, value: &Value) -> Result<Octets, LineStop>
 
 /// The tail of a nonce: 8 bytes.
 fn nonce_tail(alloc: Global, value: &Value) -> Result<Octets, LineStop>
-    ensures ok { IfOk result (λ tail. sized_at spec.is_tail_length (codes "nonce-tail") (view value.now) ≡ Some tail) }
-    ensures bad { IfErr result (λ stop. stop ≡ LineStop.Bad → sized_at spec.is_tail_length (codes "nonce-tail") (view value.now) ≡ None) }
+    ensures ok { IfOk result (λ tail.
+        sized_at spec.is_tail_length (codes "nonce-tail") (view value.now) ≡ Some tail) }
+    ensures bad { IfErr result (λ stop. stop ≡ LineStop.Bad
+        → sized_at spec.is_tail_length (codes "nonce-tail") (view value.now) ≡ None) }
 {
     let tail = bytes_at(alloc, value, "nonce-tail")?;
     if tail.len() != 8 {
@@ -55,7 +59,8 @@ fn dir_of(alloc: Global, value: &Value) -> Result<NlKeyDir, LineStop>
 /// The direction of a key that stands under a name.
 fn dir_at(alloc: Global, value: &Value, name: &str) -> Result<NlKeyDir, LineStop>
     ensures ok { IfOk result (λ dir. spec.dir_at name.now (view value.now) ≡ Some dir) }
-    ensures bad { IfErr result (λ stop. stop ≡ LineStop.Bad → spec.dir_at name.now (view value.now) ≡ None) }
+    ensures bad { IfErr result (λ stop. stop ≡ LineStop.Bad
+        → spec.dir_at name.now (view value.now) ≡ None) }
 {
     match value.get(name) {
         Some(dir) => dir_of(alloc, dir),
@@ -87,7 +92,8 @@ fn cipher_at(value: &Value) -> Option<Cipher>
 #[tactic(auto, unfolding(crate::specs::Keyconf::conf_of))]
 pub fn conf_of(alloc: Global, value: &Value) -> Result<NlKeyConf, LineStop>
     ensures ok { IfOk result (λ conf. spec.conf_of (view value.now) ≡ Some conf) }
-    ensures bad { IfErr result (λ stop. stop ≡ LineStop.Bad → spec.conf_of (view value.now) ≡ None) }
+    ensures bad { IfErr result (λ stop. stop ≡ LineStop.Bad
+        → spec.conf_of (view value.now) ≡ None) }
 {
     let names = [
         "cipher-alg",

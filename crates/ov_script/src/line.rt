@@ -6,6 +6,7 @@ ghost use Rattle.ov_script.specs.Grammar.{Says};
 
 use crate::compact::compact_line;
 use crate::grammar::line_of;
+use ov_base::Memory;
 use ov_model::Line;
 use serde_json::Value;
 use std::alloc::{AllocError, Global};
@@ -22,6 +23,16 @@ pub enum LineStop {
     Memory,
 }
 
+impl From<Memory> for LineStop {
+    ghost use Rattle.ov_script.specs.declared.line.LineStop.TheVariants as cause;
+
+    ghost from_gives = { λ _ stop. stop ≡ cause.Memory };
+
+    fn from(_refused: Memory) -> LineStop {
+        LineStop::Memory
+    }
+}
+
 impl From<AllocError> for LineStop {
     ghost use Rattle.ov_script.specs.declared.line.LineStop.TheVariants as cause;
 
@@ -36,7 +47,8 @@ impl From<AllocError> for LineStop {
 /// they say none (RFC 8259 and the grammar of lines); want of memory alone is free.
 pub fn read_line(alloc: Global, line: &[u8], lanes: u32) -> Result<Line, LineStop>
     ensures ok { IfOk result (λ read. Says line.now lanes read) }
-    ensures bad { IfErr result (λ stop. stop ≡ LineStop.Bad → (read : Line) → ¬ (Says line.now lanes read)) }
+    ensures bad { IfErr result (λ stop. stop ≡ LineStop.Bad → (read : Line)
+        → ¬ (Says line.now lanes read)) }
 {
     match compact_line(alloc, line, lanes) {
         Ok(Some(found)) => Ok(found),
@@ -48,7 +60,8 @@ pub fn read_line(alloc: Global, line: &[u8], lanes: u32) -> Result<Line, LineSto
 /// The same by the whole grammar alone, whichever text the line has.
 pub fn read_value(alloc: Global, line: &[u8], lanes: u32) -> Result<Line, LineStop>
     ensures ok { IfOk result (λ read. Says line.now lanes read) }
-    ensures bad { IfErr result (λ stop. stop ≡ LineStop.Bad → (read : Line) → ¬ (Says line.now lanes read)) }
+    ensures bad { IfErr result (λ stop. stop ≡ LineStop.Bad → (read : Line)
+        → ¬ (Says line.now lanes read)) }
 {
     let value = match Value::from_slice(alloc, line) {
         Ok(value) => value,

@@ -62,7 +62,8 @@ pub fn address_at(value: &Value, name: &str) -> Option<[u8; 4]>
 /// text, an odd number of digits, or another character.
 pub fn bytes_at(alloc: Global, value: &Value, name: &str) -> Result<Octets, LineStop>
     ensures ok { IfOk result (λ bytes. spec.bytes_at name.now (view value.now) ≡ Some bytes) }
-    ensures bad { IfErr result (λ stop. stop ≡ LineStop.Bad → spec.bytes_at name.now (view value.now) ≡ None) }
+    ensures bad { IfErr result (λ stop. stop ≡ LineStop.Bad
+        → spec.bytes_at name.now (view value.now) ≡ None) }
 {
     let Some(text) = text_at(value, name) else {
         return Err(LineStop::Bad);
@@ -112,7 +113,8 @@ pub fn has_only(value: &Value, names: &[&str]) -> bool
 /// Whether each name of an object is one of these.
 fn all_among(members: &Map<String, Value>, names: &[&str]) -> bool
     ensures { result
-        ≡ list_all (λ k. spec.is_among (string_bytes k) (map (λ n. n.now) names.now)) (keys members.now) }
+        ≡ list_all (λ k. spec.is_among (string_bytes k) (map (λ n. n.now) names.now))
+        (keys members.now) }
 {
     members.keys().all(|name| is_among(name.as_str(), names))
 }

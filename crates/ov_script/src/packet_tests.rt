@@ -1,5 +1,5 @@
 use crate::{LineStop, read_line};
-use ov_base::{Addr, Memory, Octets, Transport};
+use ov_base::{Addr, Boxed, Memory, Octets, Transport};
 use ov_model::{Cipher, Deed, Line, NlKeyConf, NlKeyDir, NlMessage, NlOp, Slot};
 use std::alloc::Global;
 use std::test::Fail;
@@ -19,45 +19,47 @@ fn dir(alloc: Global, key: &[u8], tail: &[u8]) -> Result<Option<NlKeyDir>, Memor
 }
 
 /// The line with this message on lane 0 at 0.
-fn asks(keyconf: NlKeyConf) -> Line {
+fn asks(alloc: Global, keyconf: NlKeyConf) -> Result<Line, Memory> {
     let message = NlMessage {
         op: NlOp::KeyNew,
         ifindex: None,
         peer: None,
         keyconf: Some(keyconf),
     };
-    Line {
+    Ok(Line {
         lane: 0,
         at: 0,
-        deed: Deed::Netlink(message),
-    }
+        deed: Deed::Netlink(Boxed::new(alloc, message)?),
+    })
 }
 
 #[test]
 fn a_key_new_line_gives_its_six_attributes(rt: HostRuntime) -> Result<(), Fail> {
     let key: [u8; 16] = [0, 1, 2, 3, 4, 5, 6, 7, 8, 9, 10, 11, 12, 13, 14, 15];
-    let line = asks(NlKeyConf {
+    let conf = NlKeyConf {
         peer_id: Some(5),
         slot: Some(Slot::Primary),
         key_id: Some(2),
         cipher: Some(Cipher::AesGcm),
         encrypt: dir(rt.alloc(), &key, &key[..8])?,
         decrypt: dir(rt.alloc(), &key, &key[..8])?,
-    });
+    };
+    let line = asks(rt.alloc(), conf)?;
     assert!(rt; read_line(rt.alloc(), KEY5, 1) == Ok(line));
     Ok(())
 }
 
 #[test]
 fn keys_of_24_and_32_bytes_are_read_in_either_case(rt: HostRuntime) -> Result<(), Fail> {
-    let line = asks(NlKeyConf {
+    let conf = NlKeyConf {
         peer_id: Some(16777215),
         slot: Some(Slot::Primary),
         key_id: Some(7),
         cipher: Some(Cipher::AesGcm),
         encrypt: dir(rt.alloc(), &[0xab; 24], &[0xff; 8])?,
         decrypt: dir(rt.alloc(), &[0xcd; 32], &[0; 8])?,
-    });
+    };
+    let line = asks(rt.alloc(), conf)?;
     let bytes =
         br#"{"at":0,"do":"key-new","keyconf":{"cipher-alg":"aes-gcm","decrypt-dir":{"cipher-key":"cdcdcdcdcdcdcdcdcdcdcdcdcdcdcdcdcdcdcdcdcdcdcdcdcdcdcdcdcdcdcdcd","nonce-tail":"0000000000000000"},"encrypt-dir":{"cipher-key":"aBaBaBaBaBaBaBaBaBaBaBaBaBaBaBaBaBaBaBaBaBaBaBaB","nonce-tail":"ffFFfFFfffffffff"},"key-id":7,"peer-id":16777215,"slot":"primary"},"lane":0}"#;
     assert!(rt; read_line(rt.alloc(), bytes, 1) == Ok(line));

@@ -42,7 +42,8 @@ fn transport_of(value: &Value) -> Option<Transport>
 /// The inner packet of a line that sends one. `Bad` comes exactly where the value is no such line.
 pub fn tx_packet(alloc: Global, value: &Value) -> Result<Octets, LineStop>
     ensures ok { IfOk result (λ packet. spec.tx_packet (view value.now) ≡ Some packet) }
-    ensures bad { IfErr result (λ stop. stop ≡ LineStop.Bad → spec.tx_packet (view value.now) ≡ None) }
+    ensures bad { IfErr result (λ stop. stop ≡ LineStop.Bad
+        → spec.tx_packet (view value.now) ≡ None) }
 {
     if !has_only(value, &["at", "do", "lane", "packet"]) {
         return Err(LineStop::Bad);
@@ -56,8 +57,10 @@ pub fn tx_packet(alloc: Global, value: &Value) -> Result<Octets, LineStop>
 
 /// The datagram under `datagram`.
 fn datagram_at(alloc: Global, value: &Value) -> Result<Octets, LineStop>
-    ensures ok { IfOk result (λ d. values.sized_at spec.is_datagram_length (codes "datagram") (view value.now) ≡ Some d) }
-    ensures bad { IfErr result (λ stop. stop ≡ LineStop.Bad → values.sized_at spec.is_datagram_length (codes "datagram") (view value.now) ≡ None) }
+    ensures ok { IfOk result (λ d.
+        values.sized_at spec.is_datagram_length (codes "datagram") (view value.now) ≡ Some d) }
+    ensures bad { IfErr result (λ stop. stop ≡ LineStop.Bad
+        → values.sized_at spec.is_datagram_length (codes "datagram") (view value.now) ≡ None) }
 {
     let datagram = bytes_at(alloc, value, "datagram")?;
     if datagram.len() > MOST_DATAGRAM {
@@ -79,7 +82,8 @@ fn from_at(value: &Value) -> Option<Transport>
 /// The receipt of a line by which a datagram comes. `Bad` comes exactly where the value is no such line.
 pub fn receipt_of(alloc: Global, value: &Value) -> Result<Deed, LineStop>
     ensures ok { IfOk result (λ deed. spec.HasForm form.Rx (view value.now) deed) }
-    ensures bad { IfErr result (λ stop. stop ≡ LineStop.Bad → (deed : Deed) → ¬ (spec.HasForm form.Rx (view value.now) deed)) }
+    ensures bad { IfErr result (λ stop. stop ≡ LineStop.Bad → (deed : Deed)
+        → ¬ (spec.HasForm form.Rx (view value.now) deed)) }
 {
     if !has_only(value, &["at", "datagram", "do", "from", "lane"]) {
         return Err(LineStop::Bad);

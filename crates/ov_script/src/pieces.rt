@@ -22,10 +22,13 @@ pub fn read_piece(
     rest: &mut Vec<u8>,
     lines: &mut Vec<Line>,
 ) -> Result<(), LineStop>
-    ensures ok { OnOk result ((before : List ℕ) → spec.Reads lanes before lines.old.items rest.old.items
+    ensures ok { OnOk result ((before : List ℕ)
+        → spec.Reads lanes before lines.old.items rest.old.items
         → spec.Reads lanes (before ++ piece.now) lines.new.items rest.new.items) }
-    ensures bad { IfErr result (λ stop. stop ≡ LineStop.Bad → (before : List ℕ) → spec.Reads lanes before lines.old.items rest.old.items
-        → spec.IsFirstBad lanes (spec.cut (before ++ piece.now)).ended (length lines.new.items + 1)) }
+    ensures bad { IfErr result (λ stop. stop ≡ LineStop.Bad → (before : List ℕ)
+        → spec.Reads lanes before lines.old.items rest.old.items
+        → spec.IsFirstBad lanes (spec.cut (before ++ piece.now)).ended
+        (length lines.new.items + 1)) }
     ensures good { (before : List ℕ) → spec.Reads lanes before lines.old.items rest.old.items
         → spec.AreGood lanes (spec.cut (before ++ piece.now)).ended (length lines.new.items) }
 {
@@ -50,8 +53,10 @@ fn read_ended<'a>(
     ensures ok { OnOk result ((pieces : List (List ℕ)) → spec.AreLines lanes pieces lines.old.items
         → spec.AreLines lanes (pieces ++ (spec.cut bytes.now).ended) lines.new.items) }
     ensures rest { IfOk result (λ rest. rest.now ≡ (spec.cut bytes.now).rest) }
-    ensures bad { IfErr result (λ stop. stop ≡ LineStop.Bad → (pieces : List (List ℕ)) → spec.AreLines lanes pieces lines.old.items
-        → spec.IsFirstBad lanes (pieces ++ (spec.cut bytes.now).ended) (length lines.new.items + 1)) }
+    ensures bad { IfErr result (λ stop. stop ≡ LineStop.Bad → (pieces : List (List ℕ))
+        → spec.AreLines lanes pieces lines.old.items
+        → spec.IsFirstBad lanes (pieces ++ (spec.cut bytes.now).ended)
+        (length lines.new.items + 1)) }
     ensures good { (pieces : List (List ℕ)) → spec.AreLines lanes pieces lines.old.items
         → spec.AreGood lanes (pieces ++ (spec.cut bytes.now).ended) (length lines.new.items) }
 {
@@ -87,7 +92,8 @@ pub fn read_last(
         → spec.AreLines lanes (pieces ++ spec.last_line rest.now) lines.new.items) }
     ensures err { OnErr result (lines.new.items ≡ lines.old.items) }
     ensures bad { IfErr result (λ stop. stop ≡ LineStop.Bad
-        → (spec.last_line rest.now ≡ rest.now ∷ []) × ((line : Line) → ¬ (Says rest.now lanes line))) }
+        → (spec.last_line rest.now ≡ rest.now ∷ [])
+        × ((line : Line) → ¬ (Says rest.now lanes line))) }
 {
     if rest.is_empty() {
         return Ok(());
@@ -100,9 +106,11 @@ pub fn read_last(
 
 /// Reads one line and appends it.
 fn add_line(alloc: Global, piece: &[u8], lanes: u32, lines: &mut Vec<Line>) -> Result<(), LineStop>
-    ensures ok { OnOk result ((line : Line) × Says piece.now lanes line × (lines.new.items ≡ lines.old.items ++ line ∷ [])) }
+    ensures ok { OnOk result ((line : Line) × Says piece.now lanes line
+        × (lines.new.items ≡ lines.old.items ++ line ∷ [])) }
     ensures err { OnErr result (lines.new.items ≡ lines.old.items) }
-    ensures bad { IfErr result (λ stop. stop ≡ LineStop.Bad → (line : Line) → ¬ (Says piece.now lanes line)) }
+    ensures bad { IfErr result (λ stop. stop ≡ LineStop.Bad → (line : Line)
+        → ¬ (Says piece.now lanes line)) }
 {
     let line = read_line(alloc, piece, lanes)?;
     match lines.push(line) {

@@ -1,5 +1,5 @@
 use crate::{LineStop, ReadStop, Reading, read_line, read_script};
-use ov_base::{ListOf, Memory, MemorySource, Octets, SteadySource};
+use ov_base::{Boxed, ListOf, Memory, MemorySource, Octets, SteadySource};
 use ov_model::netlink::NO_ATTRIBUTES;
 use ov_model::{Deed, Line, NlMessage, NlOp, NlPeer};
 use std::alloc::Global;
@@ -11,7 +11,7 @@ const NEW: &[u8] =
 const GET: &[u8] = br#"{"at":1,"do":"peer-get","lane":0,"peer":{"id":5}}"#;
 
 /// A message that names its peer by the id alone.
-fn named(lane: u32, at: u32, op: NlOp, id: u32) -> Line {
+fn named(alloc: Global, lane: u32, at: u32, op: NlOp, id: u32) -> Result<Line, Memory> {
     let peer = NlPeer {
         id: Some(id),
         ..NO_ATTRIBUTES
@@ -22,11 +22,11 @@ fn named(lane: u32, at: u32, op: NlOp, id: u32) -> Line {
         peer: Some(peer),
         keyconf: None,
     };
-    Line {
+    Ok(Line {
         lane,
         at,
-        deed: Deed::Netlink(message),
-    }
+        deed: Deed::Netlink(Boxed::new(alloc, message)?),
+    })
 }
 
 #[test]
@@ -42,6 +42,7 @@ fn a_peer_new_line_gives_its_four_attributes(rt: HostRuntime) {
     else {
         panic!(rt; "no line on lane 0 at 0");
     };
+    let message = message.into_inner();
     assert_eq!(rt; message.op, NlOp::PeerNew);
     assert_eq!(rt; message.ifindex, None);
     let Some(peer) = message.peer else {
@@ -55,36 +56,36 @@ fn a_peer_new_line_gives_its_four_attributes(rt: HostRuntime) {
 }
 
 #[test]
-fn lines_of_the_grammar_are_read(rt: HostRuntime) {
+fn lines_of_the_grammar_are_read(rt: HostRuntime) -> Result<(), Fail> {
     let rows: [(&[u8], u32, Line); 6] = [
-        (GET, 1, named(0, 1, NlOp::PeerGet, 5)),
+        (GET, 1, named(rt.alloc(), 0, 1, NlOp::PeerGet, 5)?),
         (
             br#"{"at":4294967295,"do":"peer-del","lane":63,"peer":{"id":16777215}}"#,
             64,
-            named(63, 4294967295, NlOp::PeerDel, 16777215),
+            named(rt.alloc(), 63, 4294967295, NlOp::PeerDel, 16777215)?,
         ),
         // The order of names and white space don't matter.
         (
             b" { \"peer\" : { \"id\" : 0 } ,\t\"lane\":1, \"do\":\"peer-get\", \"at\":2 }\r",
             2,
-            named(1, 2, NlOp::PeerGet, 0),
+            named(rt.alloc(), 1, 2, NlOp::PeerGet, 0)?,
         ),
         // Of a name that stands twice the last value counts, in the line and in its peer.
         (
             br#"{"at":"x","do":"peer-get","lane":0,"peer":{"id":-1,"id":8},"at":7}"#,
             1,
-            named(0, 7, NlOp::PeerGet, 8),
+            named(rt.alloc(), 0, 7, NlOp::PeerGet, 8)?,
         ),
         // An escaped name or word is what it stands for.
         (
             br#"{"\u0061t":1,"do":"peer\u002dget","lane":0,"peer":{"id":5}}"#,
             1,
-            named(0, 1, NlOp::PeerGet, 5),
+            named(rt.alloc(), 0, 1, NlOp::PeerGet, 5)?,
         ),
         (
             br#"{"at":0,"do":"peer-get","lane":0,"peer":{"id":5},"peer":{"id":6}}"#,
             1,
-            named(0, 0, NlOp::PeerGet, 6),
+            named(rt.alloc(), 0, 0, NlOp::PeerGet, 6)?,
         ),
     ];
     for (number, (bytes, lanes, line)) in rows.iter().enumerate() {
@@ -93,6 +94,7 @@ fn lines_of_the_grammar_are_read(rt: HostRuntime) {
             "row {number}"
         );
     }
+    Ok(())
 }
 
 #[test]
@@ -183,10 +185,10 @@ fn a_script_is_its_lines_in_order(rt: HostRuntime) -> Result<(), Fail> {
         };
         assert_eq!(rt; script.lines.len(), count);
         if let Some(first) = script.lines.as_slice().first() {
-            assert!(rt; *first == named(0, 1, NlOp::PeerGet, 5));
+            assert!(rt; *first == named(rt.alloc(), 0, 1, NlOp::PeerGet, 5)?);
         }
         if let Some(second) = script.lines.as_slice().get(1) {
-            assert!(rt; *second == named(0, 1, NlOp::PeerGet, 6));
+            assert!(rt; *second == named(rt.alloc(), 0, 1, NlOp::PeerGet, 6)?);
         }
     }
     Ok(())

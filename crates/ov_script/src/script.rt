@@ -59,20 +59,27 @@ pub struct Reading {
 /// bytes; `Read` only where a read failed, and with every other answer none did. Want of memory alone is
 /// free. A source that tells what it has left tells what it gave, and a script comes only from its end.
 pub fn read_script<S: Source>(alloc: Global, source: &mut S, lanes: u32) -> Reading
-    ensures script { IfOk result.outcome (λ script. (taken : List ℕ) → spec.Gave (S.left source.old) (S.left source.new) taken
+    ensures script { IfOk result.outcome (λ script. (taken : List ℕ)
+        → spec.Gave (S.left source.old) (S.left source.new) taken
         → (S.left source.new ≡ Some []) × spec.IsScript taken lanes script) }
-    ensures no_stop { OnOk result.outcome ((taken : List ℕ) → spec.Gave (S.left source.old) (S.left source.new) taken
+    ensures no_stop { OnOk result.outcome ((taken : List ℕ)
+        → spec.Gave (S.left source.old) (S.left source.new) taken
         → spec.HasNoStop taken lanes) }
     ensures stops { IfErr result.outcome (λ stop. (event : spec.Event) → stop ≡ spec.stop_of event
         → (taken : List ℕ) → spec.Gave (S.left source.old) (S.left source.new) taken
-        → spec.Early taken lanes event ⊎ ((S.left source.new ≡ Some []) × spec.Stop taken lanes event)) }
-    ensures fault { IfErr result.outcome (λ stop. stop ≡ ReadStop.Read → Rose (S.faults source.old) (S.faults source.new)) }
+        → spec.Early taken lanes event
+        ⊎ ((S.left source.new ≡ Some []) × spec.Stop taken lanes event)) }
+    ensures fault { IfErr result.outcome (λ stop. stop ≡ ReadStop.Read
+        → Rose (S.faults source.old) (S.faults source.new)) }
     ensures not_early { IfErr result.outcome (λ stop. stop ≡ ReadStop.Read → (taken : List ℕ)
-        → spec.Gave (S.left source.old) (S.left source.new) taken → (event : spec.Event) → ¬ (spec.Early taken lanes event)) }
-    ensures told_early { (event : spec.Event) → (taken : List ℕ) → spec.Gave (S.left source.old) (S.left source.new) taken
+        → spec.Gave (S.left source.old) (S.left source.new) taken → (event : spec.Event)
+        → ¬ (spec.Early taken lanes event)) }
+    ensures told_early { (event : spec.Event) → (taken : List ℕ)
+        → spec.Gave (S.left source.old) (S.left source.new) taken
         → spec.Early taken lanes event → spec.IsTold event result.outcome }
-    ensures told_stop { ¬ (Rose (S.faults source.old) (S.faults source.new)) → (event : spec.Event) → (taken : List ℕ)
-        → spec.Gave (S.left source.old) (S.left source.new) taken → spec.Stop taken lanes event → spec.IsTold event result.outcome }
+    ensures told_stop { ¬ (Rose (S.faults source.old) (S.faults source.new)) → (event : spec.Event)
+        → (taken : List ℕ) → spec.Gave (S.left source.old) (S.left source.new) taken
+        → spec.Stop taken lanes event → spec.IsTold event result.outcome }
     ensures counted { (taken : List ℕ) → spec.Gave (S.left source.old) (S.left source.new) taken
         → spec.Counts taken result.outcome result.good }
     ensures good { (taken : List ℕ) → spec.Gave (S.left source.old) (S.left source.new) taken
@@ -81,8 +88,10 @@ pub fn read_script<S: Source>(alloc: Global, source: &mut S, lanes: u32) -> Read
     ensures ended { OnOk result.outcome (IsAtEnd (S.left source.new)) }
     ensures later { S.faults source.old ≤ S.faults source.new }
     ensures kept { OnOk result.outcome (S.faults source.new ≡ S.faults source.old) }
-    ensures calm { IfErr result.outcome (λ stop. stop ≢ ReadStop.Read → S.faults source.new ≡ S.faults source.old) }
-    ensures fits { IfOk result.outcome (λ script. AllByRecursion (λ line. Fits line.deed) script.lines) }
+    ensures calm { IfErr result.outcome (λ stop. stop ≢ ReadStop.Read
+        → S.faults source.new ≡ S.faults source.old) }
+    ensures fits { IfOk result.outcome (λ script.
+        AllByRecursion (λ line. Fits line.deed) script.lines) }
 {
     let mut lines = Vec::new(alloc);
     if let Err(stop) = read_lines(alloc, source, lanes, &mut lines) {
@@ -107,10 +116,12 @@ fn read_lines<S: Source>(
     lines: &mut Vec<Line>,
 ) -> Result<(), ReadStop>
     requires empty { lines.old.items ≡ [] }
-    ensures read { spec.HasRead lanes (S.left source.old) (S.left source.new) (S.faults source.old) (S.faults source.new) lines.new.items result }
+    ensures read { spec.HasRead lanes (S.left source.old) (S.left source.new)
+        (S.faults source.old) (S.faults source.new) lines.new.items result }
     ensures later { S.faults source.old ≤ S.faults source.new }
     ensures kept { OnOk result (S.faults source.new ≡ S.faults source.old) }
-    ensures calm { IfErr result (λ stop. stop ≢ ReadStop.Read → S.faults source.new ≡ S.faults source.old) }
+    ensures calm { IfErr result (λ stop. stop ≢ ReadStop.Read
+        → S.faults source.new ≡ S.faults source.old) }
 {
     match piece_room(alloc) {
         Ok(mut buffer) => read_pieces(alloc, source, lanes, buffer.as_mut_slice(), lines),
@@ -139,10 +150,12 @@ fn read_pieces<S: Source>(
     requires room { 0 < length buffer.old }
     requires piece { length buffer.old ≤ spec.most_piece }
     requires empty { lines.old.items ≡ [] }
-    ensures read { spec.HasRead lanes (S.left source.old) (S.left source.new) (S.faults source.old) (S.faults source.new) lines.new.items result }
+    ensures read { spec.HasRead lanes (S.left source.old) (S.left source.new)
+        (S.faults source.old) (S.faults source.new) lines.new.items result }
     ensures later { S.faults source.old ≤ S.faults source.new }
     ensures kept { OnOk result (S.faults source.new ≡ S.faults source.old) }
-    ensures calm { IfErr result (λ stop. stop ≢ ReadStop.Read → S.faults source.new ≡ S.faults source.old) }
+    ensures calm { IfErr result (λ stop. stop ≢ ReadStop.Read
+        → S.faults source.new ≡ S.faults source.old) }
 {
     let mut rest = Vec::new(alloc);
     // How many bytes may still come.

@@ -5,7 +5,7 @@ ghost use Rattle.std.specs.List.{AllByRecursion};
 ghost use Rattle.ov_model.specs.Sizes.{Fits};
 
 use crate::run_script;
-use ov_base::{ListOf, Memory, Octets};
+use ov_base::{Boxed, ListOf, Memory, Octets};
 use ov_model::netlink::NO_ATTRIBUTES;
 use ov_model::{
     Answer, Cipher, Deed, DropCause, KeyId, Line, NlKeyConf, NlKeyDir, NlMessage, NlOp, NlPeer,
@@ -80,8 +80,8 @@ fn two_packets(alloc: Global) -> Result<Script, Memory>
     ensures { IfOk result (λ script. AllByRecursion (λ line. Fits line.deed) script.lines) }
 {
     let mut lines = Vec::new(alloc);
-    lines.push(line(Deed::Netlink(peer_new())))?;
-    lines.push(line(Deed::Netlink(key_new(alloc)?)))?;
+    lines.push(line(Deed::Netlink(Boxed::new(alloc, peer_new())?)))?;
+    lines.push(line(Deed::Netlink(Boxed::new(alloc, key_new(alloc)?)?)))?;
     lines.push(line(Deed::Tx(Octets::of(alloc, &PACKET)?)))?;
     lines.push(line(Deed::Tx(Octets::of(alloc, &PACKET)?)))?;
     Ok(Script {

@@ -159,6 +159,7 @@ fn a_removed_peer_is_noted_and_let_go(rt: HostRuntime) -> Result<(), Fail> {
     let Reply::Peer(view) = ask(&mut table, 1, Command::PeerGet(five))? else {
         panic!(rt; "peer-get shows the peer");
     };
+    let view = view.into_inner();
     assert_eq!(rt; view.id.get(), 5);
     assert_eq!(rt; view.keepalive.timeout, 0);
     let release = Call {
@@ -346,6 +347,7 @@ fn what_is_sent_and_received_is_counted(rt: HostRuntime) -> Result<(), Fail> {
     let Reply::Peer(view) = ask(&mut table, 1, Command::PeerGet(five))? else {
         panic!(rt; "peer-get shows the peer");
     };
+    let view = view.into_inner();
     let counts = view.counts;
     assert_eq!(rt; [counts.link_rx_packets, counts.link_rx_bytes], [4, 176]);
     assert_eq!(rt; [counts.vpn_rx_packets, counts.vpn_rx_bytes], [1, 20]);

@@ -9,7 +9,7 @@ ghost use Rattle.ov_path.specs.Plain.{Joined, one_key, listed, shown_of};
 
 use super::told::{Kind, Past, Told};
 use crate::desk::Desk;
-use ov_base::{Addr, ListOf, Memory};
+use ov_base::{Addr, Boxed, ListOf, Memory};
 use ov_keys::KeyPair;
 use ov_model::{
     Act, Call, Command, Drawn, Given, HoldView, InnerKind, Owed, Place, Reply, Settled, Verdict,
@@ -300,7 +300,7 @@ fn twin(alloc: Global, reply: &Reply) -> Result<Reply, Memory>
     Ok(match reply {
         Reply::Made(serial) => Reply::Made(*serial),
         Reply::Done => Reply::Done,
-        Reply::Peer(view) => Reply::Peer(*view),
+        Reply::Peer(view) => return Ok(Reply::Peer(Boxed::new(alloc, *view.get())?)),
         Reply::Removed(serials) => {
             let serials = Vec::from_slice(alloc, serials.as_slice())?;
             return Ok(Reply::Removed(ListOf::of_vec(serials)));

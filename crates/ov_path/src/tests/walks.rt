@@ -9,7 +9,7 @@ use super::plain::Plain;
 use super::told::{Kind, Told};
 use super::{DATAGRAM, PACKET, held};
 use crate::walk::{Progress, Walk};
-use ov_base::{Addr, Memory, Octets, Transport};
+use ov_base::{Addr, Boxed, Memory, Octets, Transport};
 use ov_model::netlink::NO_ATTRIBUTES;
 use ov_model::{
     Act, Answer, Deed, Drawn, DropCause, Errno, Given, Line, NlMessage, NlOp, NlPeer, PeerId,
@@ -112,19 +112,20 @@ fn rx(alloc: Global, bytes: &[u8]) -> Result<Line, Memory>
 }
 
 /// A line with a netlink message that names peer 5, or no peer.
-fn netlink(op: NlOp, peer: Option<NlPeer>) -> Line
-    ensures { Fits result.deed }
+fn netlink(alloc: Global, op: NlOp, peer: Option<NlPeer>) -> Result<Line, Memory>
+    ensures { IfOk result (λ line. Fits line.deed) }
 {
-    Line {
+    let message = NlMessage {
+        op,
+        ifindex: None,
+        peer,
+        keyconf: None,
+    };
+    Ok(Line {
         lane: 0,
         at: 7,
-        deed: Deed::Netlink(NlMessage {
-            op,
-            ifindex: None,
-            peer,
-            keyconf: None,
-        }),
-    }
+        deed: Deed::Netlink(Boxed::new(alloc, message)?),
+    })
 }
 
 /// Makes one turn of a line. The desk's next hops stay.
@@ -305,7 +306,7 @@ fn a_source_is_settled_by_its_next_hop(rt: HostRuntime) -> Result<(), Fail> {
 #[test]
 fn a_line_that_is_answered_at_once_makes_no_event(rt: HostRuntime) -> Result<(), Fail> {
     let mut desk = desk_at(&rt, rt.alloc(), 1);
-    let line = netlink(NlOp::PeerGet, None);
+    let line = netlink(rt.alloc(), NlOp::PeerGet, None)?;
     let answer = Answer::Reply(Reply::Refused(Errno::Invalid));
     runs_as(&rt, rt.alloc(), &mut desk, &line, answer, &[])?;
     let line = tx(rt.alloc(), &[0x20])?;
@@ -345,7 +346,7 @@ fn a_removed_peer_is_released_by_the_line_that_owes_it(rt: HostRuntime) -> Resul
         id: Some(5),
         ..NO_ATTRIBUTES
     };
-    let line = netlink(NlOp::PeerDel, Some(peer));
+    let line = netlink(rt.alloc(), NlOp::PeerDel, Some(peer))?;
     let answer = run(rt.alloc(), &mut desk, &line)?;
     let Some(Answer::Reply(Reply::Removed(serials))) = answer else {
         panic!(rt; "not removed");

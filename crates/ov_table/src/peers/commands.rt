@@ -13,7 +13,7 @@ use crate::outcome::Outcome;
 use crate::peer::Peer;
 use crate::retired::{retire, retire_all};
 use crate::room::push_within;
-use ov_base::{ListOf, Memory};
+use ov_base::{Boxed, ListOf, Memory};
 use ov_keys::KeyRec;
 use ov_model::limits::{MOST_KEYS, MOST_PEERS};
 use ov_model::{Attrs, Command, Errno, KeyConf, NoteBody, PeerId, Reason, Reply};
@@ -29,7 +29,7 @@ impl Peers {
     {
         match *command {
             Command::PeerNew(attrs) => self.peer_new(now, &attrs),
-            Command::PeerGet(id) => Ok(self.peer_get(now, id)),
+            Command::PeerGet(id) => self.peer_get(now, id),
             Command::Remove(id, reason) => self.remove(now, id, reason),
             Command::KeyNew(conf) => self.key_new(now, &conf),
         }
@@ -68,19 +68,20 @@ impl Peers {
 
     /// peer-get: what the live peer with an id is, refused where there is none.
     #[tactic(auto, unfolding(ov_model::specs::Step::peer_get))]
-    fn peer_get(&mut self, now: u32, id: PeerId) -> Outcome
-        ensures value { outcome self.new result ≡ model.peer_get self.old now id }
-        ensures kept { result.kept ≡ result.reply }
-        ensures same { unreleased self.new ≡ unreleased self.old }
+    fn peer_get(&mut self, now: u32, id: PeerId) -> Result<Outcome, Memory>
+        ensures ok { IfOk result (λ o. outcome self.new o ≡ model.peer_get self.old now id) }
+        ensures kept { IfOk result (λ o. o.kept ≡ o.reply) }
+        ensures more { OnOk result (unreleased self.new ≤ unreleased self.old + 2) }
+        ensures err { OnErr result (self.new ≡ self.old) }
     {
+        let Some(peer) = find::with_id(&self.live, id) else {
+            return Ok(self.refuse(now, Errno::NoEntry));
+        };
+        let view = peer.view();
+        let reply = Reply::Peer(Boxed::new(self.alloc, view)?);
+        let kept = Reply::Peer(Boxed::new(self.alloc, view)?);
         self.moment = now;
-        match find::with_id(&self.live, id) {
-            Some(peer) => Outcome::plain(Reply::Peer(peer.view()), Reply::Peer(peer.view())),
-            None => Outcome::plain(
-                Reply::Refused(Errno::NoEntry),
-                Reply::Refused(Errno::NoEntry),
-            ),
-        }
+        Ok(Outcome::plain(reply, kept))
     }
 
     /// The removal of the live peer with an id, refused where there is none: it joins the dying ones, the

@@ -5,5 +5,5 @@ use Rattle.ov_script.proofs.compact_peer.new_line.Goals as goal
 
 pub returns : goal.returns
 returns c =
-    let p = c.in_ok-parts.parts in
-    says_new c.args.line.now c.args.lanes p.at p.lane p.id p.remote.now p.port p.vpn.now _ _ c.in_ok-parts.ensures (search rules) (search rules) (search rules) (search rules) (search rules) (search rules) c.in_ok-remote.ensures c.in_ok-vpn.ensures
+    let p = c.in-Some.parts in
+    rw c.in_ok-new.ensures (says_new c.args.line.now c.args.lanes p.at p.lane p.id p.remote.now p.port p.vpn.now _ _ c.in-Some.ensures (search rules) (search rules) (search rules) (search rules) (search rules) (search rules) (search rules) (search rules))
