@@ -82,7 +82,10 @@ pub fn read_script<S: Source>(alloc: Global, source: &mut S, lanes: u32) -> Read
     ensures later { S.faults source.old ≤ S.faults source.new }
     ensures kept { OnOk result.outcome (S.faults source.new ≡ S.faults source.old) }
     ensures calm { IfErr result.outcome (λ stop. stop ≢ ReadStop.Read → S.faults source.new ≡ S.faults source.old) }
-    ensures fits { IfOk result.outcome (λ script. AllByRecursion (λ line. Fits line.deed) script.lines) }
+    ensures fits { IfOk result.outcome (λ script.
+        AllByRecursion (λ line. Fits line.deed) script.lines) }
+    ensures lanes { IfOk result.outcome (λ script.
+        AllByRecursion (λ line. line.lane < lanes) script.lines) }
 {
     let mut lines = Vec::new(alloc);
     if let Err(stop) = read_lines(alloc, source, lanes, &mut lines) {
