@@ -1,5 +1,5 @@
 -- Digits and addresses have no character that a JSON text escapes.
-use Rattle.std.proofs.Common.{ℕ, zero, suc, ◌≡◌, ◌<◌, ◌/◌, ◌%◌, ◌+◌, ◌∙◌, List, [], ◌∷◌, ◌++◌, length, get_or, slice_index, refl, sym, ap, append_assoc, arith, inl, inr, Fits, w8}
+use Rattle.std.proofs.Common.{ℕ, zero, suc, ◌≡◌, ◌<◌, ◌/◌, ◌%◌, ◌∙◌, List, [], ◌∷◌, ◌++◌, get_or, slice_index, refl, sym, ap, append_assoc, arith, inl, inr, Fits, w8}
 use Rattle.std.specs.Prelude.{codes, decimal}
 use Rattle.std.specs.Fmt.{digits}
 use Rattle.std.specs.Net.Text.{ipv4_text}

@@ -6,6 +6,7 @@ use Rattle.ov_model.specs.declared.entry.Entry.{Entry}
 use Rattle.ov_model.specs.declared.answer.Answer.{Answer}
 use Rattle.ov_model.specs.declared.note.Note.{Note}
 use Rattle.ov_model.specs.declared.replay.ReplayEntry.{ReplayEntry}
+use Rattle.ov_model.specs.declared.report.LaneLog.{LaneLog}
 use Rattle.ov_model.specs.declared.report.Report.{Report}
 use Rattle.serde_json.specs.Written.{has_float}
 use Rattle.ov_report.specs.Print.{entry_text, replay_text, answer_text, note_text}
@@ -70,11 +71,19 @@ pub shards_are : (n : ℕ) (es : List (List ReplayEntry)) → texts replays_text
 shards_are n [] = refl
 shards_are n (e ∷ es) = ap (λ t. replays_text n e ++ t) (shards_are (n + 1) es)
 
+-- The answers of a lane's lines.
+abbrev pub log_text : ℕ → LaneLog → List ℕ
+log_text lane log = answers_text lane 0 log.answers
+
+pub logs_are : (n : ℕ) (logs : List LaneLog) → texts log_text n logs ≡ lanes_text n logs
+logs_are n [] = refl
+logs_are n (log ∷ logs) = ap (λ t. log_text n log ++ t) (logs_are (n + 1) logs)
+
 pub summary_no_float : (r : Report) → has_float (summary_data r) ≡ false
 unfolding summary_data
 summary_no_float r = refl
 
--- The five parts of a report's text, whose third is the answers of one lane.
+-- The five parts of a report's text.
 pub report_parts : (r : Report)
     → report_text r ≡ texts entry_text 0 r.journal ++ (shards_text 0 r.shards ++ (lanes_text 0 r.lanes ++ (texts (λ k note. note_text note) 0 r.notes ++ summary_text r)))
 unfolding report_text

@@ -13,7 +13,8 @@ use std::alloc::Global;
 
 /// Puts a sealed datagram.
 fn append_sealed(page: &mut Vec<u8>, sealed: &SealedOut) -> Result<(), Memory>
-    ensures { OnOk result (page.new.items ≡ page.old.items ++ spec.given_text (answer.Sealed sealed.now)) }
+    ensures { OnOk result
+        (page.new.items ≡ page.old.items ++ spec.given_text (answer.Sealed sealed.now)) }
 {
     append(page, b"{\"sealed\":{\"datagram\":\"")?;
     append_digits(page, sealed.datagram.as_slice())?;
@@ -28,7 +29,8 @@ fn append_sealed(page: &mut Vec<u8>, sealed: &SealedOut) -> Result<(), Memory>
 
 /// Puts a delivered packet, with the id of its peer.
 fn append_delivered(page: &mut Vec<u8>, peer: PeerId, packet: &[u8]) -> Result<(), Memory>
-    ensures { OnOk result (page.new.items ≡ page.old.items ++ spec.given_text (answer.Delivered peer packet.now)) }
+    ensures { OnOk result (page.new.items
+        ≡ page.old.items ++ spec.given_text (answer.Delivered peer packet.now)) }
 {
     append(page, b"{\"delivered\":{\"packet\":\"")?;
     append_digits(page, packet)?;
@@ -58,7 +60,8 @@ fn cause_name(cause: DropCause) -> &'static str
 
 /// Puts the cause why something was dropped.
 fn append_dropped(page: &mut Vec<u8>, cause: DropCause) -> Result<(), Memory>
-    ensures { OnOk result (page.new.items ≡ page.old.items ++ spec.given_text (answer.Dropped cause)) }
+    ensures { OnOk result
+        (page.new.items ≡ page.old.items ++ spec.given_text (answer.Dropped cause)) }
 {
     append_word(page, b"{\"dropped\":\"", cause_name(cause))?;
     append(page, b"\"}")?;
@@ -83,15 +86,16 @@ fn append_given(alloc: Global, page: &mut Vec<u8>, answer: &Answer) -> Result<()
 pub(crate) fn append_answer(
     alloc: Global,
     page: &mut Vec<u8>,
-    lane: u32,
+    lane: u64,
     line: u64,
     answer: &Answer,
 ) -> Result<(), Memory>
-    ensures { OnOk result (page.new.items ≡ page.old.items ++ spec.answer_text lane line answer.now) }
+    ensures { OnOk result
+        (page.new.items ≡ page.old.items ++ spec.answer_text lane line answer.now) }
 {
     append(page, b"{\"answer\":")?;
     append_given(alloc, page, answer)?;
-    append_number(page, b",\"lane\":", lane as u64)?;
+    append_number(page, b",\"lane\":", lane)?;
     append_closed(page, b",\"line\":", line, b"}\n")?;
     Ok(())
 }
@@ -101,6 +105,6 @@ pub fn answer_line(alloc: Global, lane: u32, line: u64, answer: &Answer) -> Resu
     ensures text { IfOk result (λ text. text ≡ spec.answer_text lane line answer.now) }
 {
     let mut page = Vec::new(alloc);
-    append_answer(alloc, &mut page, lane, line, answer)?;
+    append_answer(alloc, &mut page, lane as u64, line, answer)?;
     Ok(Octets::of_vec(page))
 }

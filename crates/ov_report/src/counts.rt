@@ -1,10 +1,28 @@
 //! The counts of a report's histories.
 
-ghost use Rattle.std.specs.Prelude.{◌≡◌, count_by, IfOk};
+ghost use Rattle.std.specs.Prelude.{◌≡◌, ℕ, count_by, sum_by, IfOk};
+ghost use Rattle.std.specs.Fn.{FnReturnsAt};
 ghost use Rattle.ov_report.specs.Summary as spec;
 
 use ov_base::{ListOf, Memory};
-use ov_model::{Act, Answer, Command, DropCause, Entry, ReplayEntry, Reply, Verdict};
+use ov_model::{Act, Answer, Command, DropCause, Entry, LaneLog, ReplayEntry, Reply, Verdict};
+
+/// The sum of what is counted in each member of a list. More than a u64 counts no memory holds.
+fn total<T, F: Fn(&T) -> usize>(list: &[T], count: F) -> Result<u64, Memory>
+    requires { F.IsAlwaysCallable count }
+    ensures { (value : T → ℕ) →
+        ((member : T) → (n : ℕ) → FnReturnsAt F.Fn count member n → n ≡ value member) →
+        IfOk result (λ sum. sum ≡ sum_by value list.now) }
+{
+    let mut sum: u64 = 0;
+    for member in list {
+        let Some(more) = sum.checked_add(count(member) as u64) else {
+            return Err(Memory);
+        };
+        sum = more;
+    }
+    Ok(sum)
+}
 
 /// Whether an entry made a peer.
 fn makes_peer(act: &Act, reply: &Reply) -> bool
@@ -96,25 +114,42 @@ fn is_bad_tag(answer: &Answer) -> bool
     }
 }
 
-/// The number of sealed datagrams.
-pub fn sealed(answers: &[Answer]) -> usize
-    ensures { result ≡ count_by spec.is_sealed answers.now }
+/// The number of all lanes' answers. As each of the following, it answers want of memory where a u64 can't
+/// count them.
+pub fn answers(lanes: &[LaneLog]) -> Result<u64, Memory>
+    ensures { IfOk result (λ n. n ≡ spec.answers lanes.now) }
 {
-    answers.iter().filter(|answer| is_sealed(answer)).count()
+    total(lanes, |log| log.answers.len())
 }
 
-/// The number of delivered packets.
-pub fn delivered(answers: &[Answer]) -> usize
-    ensures { result ≡ count_by spec.is_delivered answers.now }
+/// The number of all lanes' sealed datagrams.
+pub fn sealed(lanes: &[LaneLog]) -> Result<u64, Memory>
+    ensures { IfOk result (λ n. n ≡ spec.answered spec.is_sealed lanes.now) }
 {
-    answers.iter().filter(|answer| is_delivered(answer)).count()
+    total(lanes, |log| {
+        let answers = log.answers.as_slice();
+        answers.iter().filter(|answer| is_sealed(answer)).count()
+    })
 }
 
-/// The number of datagrams whose tag was wrong.
-pub fn bad_tags(answers: &[Answer]) -> usize
-    ensures { result ≡ count_by spec.is_bad_tag answers.now }
+/// The number of all lanes' delivered packets.
+pub fn delivered(lanes: &[LaneLog]) -> Result<u64, Memory>
+    ensures { IfOk result (λ n. n ≡ spec.answered spec.is_delivered lanes.now) }
 {
-    answers.iter().filter(|answer| is_bad_tag(answer)).count()
+    total(lanes, |log| {
+        let answers = log.answers.as_slice();
+        answers.iter().filter(|answer| is_delivered(answer)).count()
+    })
+}
+
+/// The number of all lanes' datagrams whose tag was wrong.
+pub fn bad_tags(lanes: &[LaneLog]) -> Result<u64, Memory>
+    ensures { IfOk result (λ n. n ≡ spec.answered spec.is_bad_tag lanes.now) }
+{
+    total(lanes, |log| {
+        let answers = log.answers.as_slice();
+        answers.iter().filter(|answer| is_bad_tag(answer)).count()
+    })
 }
 
 /// Whether a verdict lets a packet in.
@@ -141,30 +176,16 @@ fn refused_in(steps: &[ReplayEntry]) -> usize
     steps.iter().filter(|step| !is_accept(step.verdict)).count()
 }
 
-/// The number of all shards' steps that accepted an id. More than a u64 counts no memory holds.
+/// The number of all shards' steps that accepted an id.
 pub fn accepted(shards: &[ListOf<ReplayEntry>]) -> Result<u64, Memory>
     ensures { IfOk result (λ n. n ≡ spec.judged spec.is_accept shards.now) }
 {
-    let mut sum: u64 = 0;
-    for shard in shards {
-        let Some(more) = sum.checked_add(accepted_in(shard.as_slice()) as u64) else {
-            return Err(Memory);
-        };
-        sum = more;
-    }
-    Ok(sum)
+    total(shards, |shard| accepted_in(shard.as_slice()))
 }
 
-/// The number of all shards' steps that refused an id. More than a u64 counts no memory holds.
+/// The number of all shards' steps that refused an id.
 pub fn refused(shards: &[ListOf<ReplayEntry>]) -> Result<u64, Memory>
     ensures { IfOk result (λ n. n ≡ spec.judged spec.is_refused shards.now) }
 {
-    let mut sum: u64 = 0;
-    for shard in shards {
-        let Some(more) = sum.checked_add(refused_in(shard.as_slice()) as u64) else {
-            return Err(Memory);
-        };
-        sum = more;
-    }
-    Ok(sum)
+    total(shards, |shard| refused_in(shard.as_slice()))
 }

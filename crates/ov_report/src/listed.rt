@@ -22,7 +22,7 @@ pub(crate) trait Listed {
     fn append(
         &self,
         alloc: Global,
-        owner: u32,
+        owner: u64,
         number: u64,
         page: &mut Vec<u8>,
     ) -> Result<(), Memory>
@@ -36,7 +36,7 @@ impl Listed for Entry {
     fn append(
         &self,
         alloc: Global,
-        _owner: u32,
+        _owner: u64,
         number: u64,
         page: &mut Vec<u8>,
     ) -> Result<(), Memory> {
@@ -50,7 +50,7 @@ impl Listed for ReplayEntry {
     fn append(
         &self,
         _alloc: Global,
-        owner: u32,
+        owner: u64,
         _number: u64,
         page: &mut Vec<u8>,
     ) -> Result<(), Memory> {
@@ -64,7 +64,7 @@ impl Listed for Answer {
     fn append(
         &self,
         alloc: Global,
-        owner: u32,
+        owner: u64,
         number: u64,
         page: &mut Vec<u8>,
     ) -> Result<(), Memory> {
@@ -78,7 +78,7 @@ impl Listed for Note {
     fn append(
         &self,
         alloc: Global,
-        _owner: u32,
+        _owner: u64,
         _number: u64,
         page: &mut Vec<u8>,
     ) -> Result<(), Memory> {
@@ -89,14 +89,17 @@ impl Listed for Note {
 /// Prints the lines of a list in their order.
 pub(crate) fn print_list<T: Listed, K: Sink>(
     alloc: Global,
-    owner: u32,
+    owner: u64,
     list: &[T],
     page: &mut Vec<u8>,
     sink: &mut K,
 ) -> Result<(), PrintStop>
-    ensures passed { OnOk result (Passed (K.written sink.old) (K.written sink.new) page.old.items (texts (T.text owner) 0 list.now) page.new.items) }
-    ensures stopped { IfErr result (λ stop. Stopped stop (K.written sink.old) (K.written sink.new) (K.faults sink.old) (K.faults sink.new) page.old.items (texts (T.text owner) 0 list.now)) }
-    ensures bound { length page.old.items < full_page → OnOk result (length page.new.items < full_page) }
+    ensures passed { OnOk result (Passed (K.written sink.old) (K.written sink.new)
+        page.old.items (texts (T.text owner) 0 list.now) page.new.items) }
+    ensures stopped { IfErr result (λ stop. Stopped stop (K.written sink.old) (K.written sink.new)
+        (K.faults sink.old) (K.faults sink.new) page.old.items (texts (T.text owner) 0 list.now)) }
+    ensures bound { length page.old.items < full_page →
+        OnOk result (length page.new.items < full_page) }
     ensures later { K.faults sink.old ≤ K.faults sink.new }
     ensures kept { OnOk result (K.faults sink.new ≡ K.faults sink.old) }
 {

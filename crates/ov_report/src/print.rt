@@ -76,7 +76,8 @@ pub fn entry_line(alloc: Global, number: u64, entry: &Entry) -> Result<Octets, M
 
 /// Puts what a notification tells.
 fn put_note(members: &mut Members, alloc: Global, body: &NoteBody) -> Result<(), Memory>
-    ensures { OnOk result (members_view members.old.entries ≡ no_members → members_view members.new.entries ≡ spec.note_members body.now) }
+    ensures { OnOk result (members_view members.old.entries ≡ no_members →
+        members_view members.new.entries ≡ spec.note_members body.now) }
 {
     let mut inner = Map::new(alloc);
     match body {
@@ -142,7 +143,7 @@ fn verdict_name(verdict: Verdict) -> &'static str
 /// Puts the line of a replay step of a shard, which is numbered from 0.
 pub(crate) fn append_replay(
     page: &mut Vec<u8>,
-    shard: u32,
+    shard: u64,
     entry: &ReplayEntry,
 ) -> Result<(), Memory>
     ensures { OnOk result (page.new.items ≡ page.old.items ++ spec.replay_text shard entry.now) }
@@ -153,7 +154,7 @@ pub(crate) fn append_replay(
     append_number(page, b",\"lane\":", entry.place.lane as u64)?;
     append_number(page, b",\"line\":", entry.place.line)?;
     append_number(page, b",\"moment\":", entry.moment as u64)?;
-    append_number(page, b",\"shard\":", shard as u64)?;
+    append_number(page, b",\"shard\":", shard)?;
     append_word(page, b",\"verdict\":\"", verdict_name(entry.verdict))?;
     append(page, b"\"}\n")?;
     Ok(())
@@ -164,6 +165,6 @@ pub fn replay_line(alloc: Global, shard: u32, entry: &ReplayEntry) -> Result<Oct
     ensures text { IfOk result (λ line. line ≡ spec.replay_text shard entry.now) }
 {
     let mut page = Vec::new(alloc);
-    append_replay(&mut page, shard, entry)?;
+    append_replay(&mut page, shard as u64, entry)?;
     Ok(Octets::of_vec(page))
 }

@@ -92,6 +92,8 @@ pub fn read_script<S: Source>(alloc: Global, source: &mut S, lanes: u32) -> Read
         → S.faults source.new ≡ S.faults source.old) }
     ensures fits { IfOk result.outcome (λ script.
         AllByRecursion (λ line. Fits line.deed) script.lines) }
+    ensures lanes { IfOk result.outcome (λ script.
+        AllByRecursion (λ line. line.lane < lanes) script.lines) }
 {
     let mut lines = Vec::new(alloc);
     if let Err(stop) = read_lines(alloc, source, lanes, &mut lines) {

@@ -1,9 +1,7 @@
--- The steps of one shard more.
-use Rattle.std.proofs.Common.{◌∙◌, ap, count_by}
+-- The steps of each shard that pass are counted.
+use Rattle.std.proofs.Common.{count_by, rules}
 use Rattle.ov_report.specs.Summary.{is_refused}
-use Rattle.ov_report.proofs.Counting.{shard_counted}
 use Rattle.ov_report.proofs.counts.refused.Goals as goal
 
-pub loop-shard-preserved : goal.loop-shard-preserved
-loop-shard-preserved c = shard_counted is_refused c.args.shards.now c.loop-shard.shard-index c.shard-item.result c.loop-shard.sum c.in-Some.more c.refused_in.result c.loop-shard-test.true c.loop-shard.invariant
-    (c.refused_in.ensures ∙ ap (count_by (λ r. is_refused r.verdict)) (c.as_slice.ensures ∙ c.shard-item.is)) c.in-Some.ensures.1
+pub returns : goal.returns
+returns c = c.total.ensures (count_by (λ r. is_refused r.verdict)) (λ shard n counted. search rules)

@@ -1,7 +1,7 @@
 -- The five parts of the text, one after the other, up to the one that didn't pass.
 use Rattle.std.proofs.lemmas.Result.{IfErr-weaker, IfOk-weaker}
 use Rattle.ov_report.proofs.Passing.{handed_on, stopped_in, stopped_then, passed_then}
-use Rattle.ov_report.proofs.Texts.{report_parts, answers_are}
+use Rattle.ov_report.proofs.Texts.{report_parts}
 use Rattle.ov_report.proofs.text.print_lines.Goals as goal
 
 pub returns-in_err-print_list-clause-stopped : goal.returns-in_err-print_list-clause-stopped
@@ -14,22 +14,22 @@ returns-in_err-print_shards-clause-stopped g c = handed_on _ _ _ c.from_residual
     (stopped_then _ _ _ _ _ _ _ _ _ _ _ (rw c.as_slice.ensures at c.in_ok-print_list.ensures.passed) c.print_list.ensures.later
     (stopped_in _ _ _ _ _ _ _ _ (rw c.as_slice-2.ensures at c.in_err-print_shards.ensures.stopped))))
 
+pub returns-in_err-print_lanes-clause-stopped : goal.returns-in_err-print_lanes-clause-stopped
+returns-in_err-print_lanes-clause-stopped g c =
+    handed_on _ _ _ c.from_residual-in_err-print_lanes.ensures
+    (rw (report_parts c.args.report.now)
+    (stopped_then _ _ _ _ _ _ _ _ _ _ _ (rw c.as_slice.ensures at c.in_ok-print_list.ensures.passed) c.print_list.ensures.later
+    (stopped_then _ _ _ _ _ _ _ _ _ _ _ (rw c.as_slice-2.ensures at c.in_ok-print_shards.ensures.passed) c.print_shards.ensures.later
+    (stopped_in _ _ _ _ _ _ _ _ (rw c.as_slice-3.ensures at c.in_err-print_lanes.ensures.stopped)))))
+
 pub returns-in_err-print_list-2-clause-stopped : goal.returns-in_err-print_list-2-clause-stopped
 returns-in_err-print_list-2-clause-stopped g c =
     handed_on _ _ _ c.from_residual-in_err-print_list-2.ensures
     (rw (report_parts c.args.report.now)
     (stopped_then _ _ _ _ _ _ _ _ _ _ _ (rw c.as_slice.ensures at c.in_ok-print_list.ensures.passed) c.print_list.ensures.later
     (stopped_then _ _ _ _ _ _ _ _ _ _ _ (rw c.as_slice-2.ensures at c.in_ok-print_shards.ensures.passed) c.print_shards.ensures.later
-    (stopped_in _ _ _ _ _ _ _ _ (rw (answers_are 0 0 c.only_answers.result.now, ← c.only_answers.ensures.text, c.as_slice-3.ensures) at c.in_err-print_list-2.ensures.stopped)))))
-
-pub returns-in_err-print_list-3-clause-stopped : goal.returns-in_err-print_list-3-clause-stopped
-returns-in_err-print_list-3-clause-stopped g c =
-    handed_on _ _ _ c.from_residual-in_err-print_list-3.ensures
-    (rw (report_parts c.args.report.now)
-    (stopped_then _ _ _ _ _ _ _ _ _ _ _ (rw c.as_slice.ensures at c.in_ok-print_list.ensures.passed) c.print_list.ensures.later
-    (stopped_then _ _ _ _ _ _ _ _ _ _ _ (rw c.as_slice-2.ensures at c.in_ok-print_shards.ensures.passed) c.print_shards.ensures.later
-    (stopped_then _ _ _ _ _ _ _ _ _ _ _ (rw (answers_are 0 0 c.only_answers.result.now, ← c.only_answers.ensures.text, c.as_slice-3.ensures) at c.in_ok-print_list-2.ensures.passed) c.print_list-2.ensures.later
-    (stopped_in _ _ _ _ _ _ _ _ (rw c.as_slice-4.ensures at c.in_err-print_list-3.ensures.stopped))))))
+    (stopped_then _ _ _ _ _ _ _ _ _ _ _ (rw c.as_slice-3.ensures at c.in_ok-print_lanes.ensures.passed) c.print_lanes.ensures.later
+    (stopped_in _ _ _ _ _ _ _ _ (rw c.as_slice-4.ensures at c.in_err-print_list-2.ensures.stopped))))))
 
 pub returns-clause-passed : goal.returns-clause-passed
 returns-clause-passed g c =
@@ -37,8 +37,8 @@ returns-clause-passed g c =
     (rw (report_parts c.args.report.now)
     (passed_then _ _ _ _ _ _ _ _ (rw c.as_slice.ensures at c.in_ok-print_list.ensures.passed)
     (passed_then _ _ _ _ _ _ _ _ (rw c.as_slice-2.ensures at c.in_ok-print_shards.ensures.passed)
-    (passed_then _ _ _ _ _ _ _ _ (rw (answers_are 0 0 c.only_answers.result.now, ← c.only_answers.ensures.text, c.as_slice-3.ensures) at c.in_ok-print_list-2.ensures.passed)
-    (passed_then _ _ _ _ _ _ _ _ (rw c.as_slice-4.ensures at c.in_ok-print_list-3.ensures.passed) passed)))))) c.print_summary.ensures.passed
+    (passed_then _ _ _ _ _ _ _ _ (rw c.as_slice-3.ensures at c.in_ok-print_lanes.ensures.passed)
+    (passed_then _ _ _ _ _ _ _ _ (rw c.as_slice-4.ensures at c.in_ok-print_list-2.ensures.passed) passed)))))) c.print_summary.ensures.passed
 
 pub returns-clause-stopped : goal.returns-clause-stopped
 returns-clause-stopped g c =
@@ -46,5 +46,5 @@ returns-clause-stopped g c =
     (rw (report_parts c.args.report.now)
     (stopped_then _ _ _ _ _ _ _ _ _ _ _ (rw c.as_slice.ensures at c.in_ok-print_list.ensures.passed) c.print_list.ensures.later
     (stopped_then _ _ _ _ _ _ _ _ _ _ _ (rw c.as_slice-2.ensures at c.in_ok-print_shards.ensures.passed) c.print_shards.ensures.later
-    (stopped_then _ _ _ _ _ _ _ _ _ _ _ (rw (answers_are 0 0 c.only_answers.result.now, ← c.only_answers.ensures.text, c.as_slice-3.ensures) at c.in_ok-print_list-2.ensures.passed) c.print_list-2.ensures.later
-    (stopped_then _ _ _ _ _ _ _ _ _ _ _ (rw c.as_slice-4.ensures at c.in_ok-print_list-3.ensures.passed) c.print_list-3.ensures.later stopped)))))) c.print_summary.ensures.stopped
+    (stopped_then _ _ _ _ _ _ _ _ _ _ _ (rw c.as_slice-3.ensures at c.in_ok-print_lanes.ensures.passed) c.print_lanes.ensures.later
+    (stopped_then _ _ _ _ _ _ _ _ _ _ _ (rw c.as_slice-4.ensures at c.in_ok-print_list-2.ensures.passed) c.print_list-2.ensures.later stopped)))))) c.print_summary.ensures.stopped

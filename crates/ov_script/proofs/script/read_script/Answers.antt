@@ -2,7 +2,7 @@
 use Rattle.std.proofs.Common.{◌≡◌, length, rules}
 use Rattle.ov_script.proofs.Judging.{gave_some, stops_known, rose_known, no_stop_known, not_early_known, counts_known, good_known}
 use Rattle.ov_script.proofs.Stopping.{early_stops, told_early, told_stop}
-use Rattle.ov_script.proofs.Fitting.{lines_fit}
+use Rattle.ov_script.proofs.Fitting.{lines_fit, lines_below}
 use Rattle.ov_script.specs.Reading.{whole_lines}
 use Rattle.ov_script.proofs.script.read_script.Goals as goal
 
@@ -42,6 +42,9 @@ returns-clause-told_stop g c = λ calm event taken gave first. absurd (no_stop_k
 
 pub returns-clause-fits : goal.returns-clause-fits
 returns-clause-fits g c = rw c.of_vec.ensures (lines_fit c.args.lanes (whole_lines c.in_default.ensures.read.bytes) c.read_lines.new.lines.items c.in_default.ensures.read.judged.1)
+
+pub returns-clause-lanes : goal.returns-clause-lanes
+returns-clause-lanes g c = rw c.of_vec.ensures (lines_below c.args.lanes (whole_lines c.in_default.ensures.read.bytes) c.read_lines.new.lines.items c.in_default.ensures.read.judged.1)
 
 pub returns-in-Err-clause-taken : goal.returns-in-Err-clause-taken
 returns-in-Err-clause-taken g c = gave_some _ _ _ c.in-Err.ensures.read.taken

@@ -1,6 +1,0 @@
-use Rattle.std.proofs.Common.{◌≡◌, take}
-use Rattle.ov_report.specs.Summary.{judged, is_refused}
-use Rattle.ov_report.proofs.counts.refused.Given as goal
-
-abbrev pub invariant-loop-shard : goal.invariant-loop-shard
-invariant-loop-shard l = l.sum ≡ judged is_refused (take l.shard-index l.shards)
