@@ -86,8 +86,10 @@ pub fn encrypted_two(
     second: [u8; 16],
 ) -> ([u8; 16], [u8; 16])
     requires { (1 ≤ rounds) × (rounds < 15) }
-    ensures first { (w : List (List ℕ)) → HasKeys keys.now w rounds → result.0 ≡ cipher w rounds first }
-    ensures second { (w : List (List ℕ)) → HasKeys keys.now w rounds → result.1 ≡ cipher w rounds second }
+    ensures first { (w : List (List ℕ)) →
+        HasKeys keys.now w rounds → result.0 ≡ cipher w rounds first }
+    ensures second { (w : List (List ℕ)) →
+        HasKeys keys.now w rounds → result.1 ≡ cipher w rounds second }
 {
     let begin = kept_at(keys, 0);
     let mut one = inner_form(vector_of(first) ^ begin);

@@ -40,8 +40,8 @@ fn padded_with_zeros(bytes: &[u8]) -> [u8; BLOCK]
     block
 }
 
-/// GHASH of blocks and at most 16 bytes more, padded, where `sum` is GHASH of the blocks. A whole block goes
-/// without a copy.
+/// GHASH of blocks and at most 16 bytes more, padded, where `sum` is GHASH of the blocks. A whole
+/// block goes without a copy.
 #[inline(always)]
 fn folded_part(key: &HashKey, sum: [u8; BLOCK], bytes: &[u8]) -> [u8; BLOCK]
     requires { length bytes.now ≤ 16 }

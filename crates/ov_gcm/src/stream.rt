@@ -20,12 +20,13 @@ pub fn counter_block(nonce: [u8; 12], i: u32) -> [u8; BLOCK]
     block
 }
 
-/// Adds what the cipher makes of counter block `i + 1` to block `i` of a text, of which the last may be
-/// cut.
+/// Adds what the cipher makes of counter block `i + 1` to block `i` of a text, of which the last may
+/// be cut.
 fn add_at(text: &mut [u8], i: usize, block: [u8; BLOCK])
     requires within { 16 * i < length text.old }
     requires most { length text.old ≤ MOST_BYTES }
-    ensures { (key nonce p : List ℕ) → length p ≡ length text.old → block ≡ aes key (counter nonce (i + 1)) →
+    ensures { (key nonce p : List ℕ) → length p ≡ length text.old →
+        block ≡ aes key (counter nonce (i + 1)) →
         IsCryptedUpTo key nonce p i text.old → IsCryptedUpTo key nonce p (i + 1) text.new }
 {
     let end = text.len().min(BLOCK * i + BLOCK);
@@ -60,7 +61,8 @@ fn crypt_two(key: &AesKey, nonce: [u8; 12], text: &mut [u8], i: usize)
     add_at(text, i + 1, second);
 }
 
-/// Encrypts or decrypts a text in place: two counter blocks a turn, and then the one that may be left.
+/// Encrypts or decrypts a text in place: two counter blocks a turn, and then the one that may be
+/// left.
 pub fn crypt(key: &AesKey, nonce: [u8; 12], text: &mut [u8])
     requires { length text.old ≤ MOST_BYTES }
     ensures { text.new ≡ crypted (key_list key.now) nonce text.old }
