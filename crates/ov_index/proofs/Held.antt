@@ -1,5 +1,5 @@
 -- What the maps of an index say of its places, and that they go on saying it.
-use Rattle.std.proofs.Common.{ℕ, ◌≡◌, ◌∙◌, refl, ap, sym, subst, List, [], ◌∷◌, ◌++◌, length, Bool, true, false, cond, if◌then◌else◌, ◌==◌, ◌&&◌, ◌||◌, arith, inl, inr, ◌⊎◌}
+use Rattle.std.proofs.Common.{suc, ◌+◌, ℕ, ◌≡◌, ◌∙◌, refl, ap, sym, subst, List, [], ◌∷◌, ◌++◌, length, Bool, true, false, cond, if◌then◌else◌, ◌==◌, ◌&&◌, ◌||◌, arith, inl, inr, ◌⊎◌}
 use Rattle.std.specs.Prelude.{Option, Some, None, find, slice_get, slice_set, is_some}
 use Rattle.std.specs.List.{list_any}
 use Rattle.std.proofs.lemmas.Bool.{cases_eq}
@@ -12,7 +12,9 @@ use Rattle.std.specs.Cmp.{first_so, second_so}
 use Rattle.std.proofs.lemmas.Slice.Eq.{bytes_eq-Decides}
 use Rattle.ov_model.specs.declared.command.Attrs.{Attrs}
 use Rattle.ov_model.specs.Tables.{Peer, has_serial, has_id, by_id, by_remote, same_vpn, shares_vpn}
-use Rattle.ov_model.specs.Step.{has_key, peer_of}
+use Rattle.ov_model.specs.declared.reply.Settled.{Settled}
+use Rattle.ov_model.specs.Tables.{change_first, without_first}
+use Rattle.ov_model.specs.Step.{has_key, peer_of, received_peer, settled_peer, floated}
 use Rattle.ov_index.specs.declared.name.Host.{Host}
 use Rattle.ov_index.specs.declared.name.Host.TheVariants.{V4, V6}
 use Rattle.ov_index.specs.declared.name.Name.{Name}
@@ -270,3 +272,60 @@ standing_there o h s i n k owns none = let there = i.found n k owns in absurd (l
 
 pub not_both : {X : Type 0} (o : Option X) → o ≡ None → is_some o ≡ true → ⊥
 not_both o none some = absurd (let e : ◌≡◌ {A = Bool} false true = sym (ap is_some none) ∙ some in cc)
+
+-- ---- changes of a list
+
+pub length_changed : {X : Type 0} (fits : X → Bool) (change : X → X) (xs : List X) → length (change_first fits change xs) ≡ length xs
+length_changed fits change [] = refl
+length_changed fits change (x ∷ xs) =
+    elim (fits x) as (λ b. length (if b then change x ∷ xs else x ∷ change_first fits change xs) ≡ length (x ∷ xs)) [ true ↦ refl | false ↦ ap suc (length_changed fits change xs) ]
+
+pub length_without : {X : Type 0} (fits : X → Bool) (xs : List X) (x : X) → find fits xs ≡ Some x → length (without_first fits xs) + 1 ≡ length xs
+length_without fits [] x found = absurd (let e : ◌≡◌ None (Some x) = found in cc)
+length_without fits (y ∷ ys) x found =
+    elim (fits y) as (λ b. (if b then Some y else find fits ys) ≡ Some x → length (if b then ys else y ∷ without_first fits ys) + 1 ≡ length (y ∷ ys)) [
+      | true ↦ λ here. omega arith
+      | false ↦ λ later. let rest : length (without_first fits ys) + 1 ≡ length ys = length_without fits ys x later in omega arith
+    ] found
+
+pub changed_not : {X : Type 0} (fits : X → Bool) (xs : List X) → change_first fits (λ x. x) xs ≡ xs
+changed_not fits [] = refl
+changed_not fits (x ∷ xs) = elim (fits x) as (λ b. (if b then x ∷ xs else x ∷ change_first fits (λ y. y) xs) ≡ x ∷ xs) [ true ↦ refl | false ↦ ap (λ ys. x ∷ ys) (changed_not fits xs) ]
+
+pub changed_twice : {X : Type 0} (fits : X → Bool) (f g : X → X) (xs : List X) → ((x : X) → fits (f x) ≡ fits x) → change_first fits g (change_first fits f xs) ≡ change_first fits (λ x. g (f x)) xs
+changed_twice fits f g [] same = refl
+changed_twice fits f g (x ∷ xs) same =
+    elim (fits x) as (λ b. fits x ≡ b → change_first fits g (if b then f x ∷ xs else x ∷ change_first fits f xs) ≡ (if b then g (f x) ∷ xs else x ∷ change_first fits (λ y. g (f y)) xs)) [
+      | true ↦ λ here. rw (same x ∙ here) refl
+      | false ↦ λ no. rw no (ap (λ ys. x ∷ ys) (changed_twice fits f g xs same))
+    ] refl
+
+-- A float is settled before or after the datagram is counted.
+float_later : (live : List Peer) (from : Option Transport) (now outer : ℕ) (p : Peer) → received_peer now outer (floated live from p) ≡ floated live from (received_peer now outer p)
+float_later live None now outer p = refl
+float_later live (Some t) now outer p = elim (is_some (by_remote t live)) as (λ b. received_peer now outer (if b then p else record p { remote = t }) ≡ (if b then received_peer now outer p else record (received_peer now outer p) { remote = t })) [ true ↦ refl | false ↦ refl ]
+
+float_serial : (live : List Peer) (from : Option Transport) (serial : ℕ) (p : Peer) → has_serial serial (floated live from p) ≡ has_serial serial p
+float_serial live None serial p = refl
+float_serial live (Some t) serial p = elim (is_some (by_remote t live)) as (λ b. has_serial serial (if b then p else record p { remote = t }) ≡ has_serial serial p) [ true ↦ refl | false ↦ refl ]
+
+pub settled_twice : (live : List Peer) (serial now : ℕ) (from : Option Transport) (s : Settled) (inner outer : ℕ)
+    → change_first (has_serial serial) (λ p. settled_peer s inner (received_peer now outer p)) (change_first (has_serial serial) (floated live from) live) ≡ change_first (has_serial serial) (λ p. settled_peer s inner (floated live from (received_peer now outer p))) live
+settled_twice live serial now from s inner outer =
+    changed_twice (has_serial serial) (floated live from) (λ p. settled_peer s inner (received_peer now outer p)) live (float_serial live from serial)
+    ∙ (λ i. change_first (has_serial serial) (λ p. settled_peer s inner (float_later live from now outer p i)) live)
+
+any_changed : {X : Type 0} (fits : X → Bool) (f : X → X) (xs : List X) → ((x : X) → fits (f x) ≡ fits x) → list_any fits (change_first fits f xs) ≡ list_any fits xs
+any_changed fits f [] same = refl
+any_changed fits f (x ∷ xs) same =
+    elim (fits x) as (λ b. fits x ≡ b → list_any fits (if b then f x ∷ xs else x ∷ change_first fits f xs) ≡ (b || list_any fits xs)) [
+      | true ↦ λ here. rw (same x ∙ here) refl
+      | false ↦ λ no. rw no (any_changed fits f xs same)
+    ] refl
+
+pub there_changed : (live : List Peer) (serial : ℕ) (from : Option Transport) → list_any (has_serial serial) (change_first (has_serial serial) (floated live from) live) ≡ list_any (has_serial serial) live
+there_changed live serial from = any_changed (has_serial serial) (floated live from) live (float_serial live from serial)
+
+-- Nobody floats to a transport that is taken, and else the one with the serial does.
+pub stays : (live : List Peer) (serial : ℕ) (t : Transport) → is_some (by_remote t live) ≡ true → change_first (has_serial serial) (floated live (Some t)) live ≡ live
+stays live serial t taken = (λ i. change_first (has_serial serial) (λ p. if taken i then p else record p { remote = t }) live) ∙ changed_not (has_serial serial) live

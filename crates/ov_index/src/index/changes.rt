@@ -1,6 +1,6 @@
 //! Changing live peers where they stand, and taking them out.
 
-ghost use Rattle.std.specs.Prelude.{◌≡◌, ◌+◌, true, false, Some, is_some, IfOk, OnOk, OnErr};
+ghost use Rattle.std.specs.Prelude.{◌≡◌, ◌+◌, true, false, Some, is_some, length, IfOk, OnOk, OnErr, OnSome};
 ghost use Rattle.ov_model.specs.Step as model;
 ghost use Rattle.ov_model.specs.Tables as tables;
 ghost use Rattle.ov_index.specs.Index.{key_taken};
@@ -20,6 +20,7 @@ impl Index {
         ensures was { result ≡ tables.by_id id self.old.live }
         ensures now { self.new ≡
             record self.old { live = tables.without_first (tables.has_id id) self.old.live } }
+        ensures fewer { OnSome result (length self.new.live + 1 ≡ length self.old.live) }
     {
         let Some(serial) = owner_of(&self.owners, Name::Id(id.get())) else {
             return None;
@@ -38,6 +39,7 @@ impl Index {
           live = tables.change_first (tables.has_serial serial)
               (model.sent_peer now inner outer ping) self.old.live;
         } }
+        ensures long { length self.new.live ≡ length self.old.live }
     {
         let Some(mut peer) = take_at(&mut self.peers, serial as usize) else {
             return false;
@@ -47,15 +49,50 @@ impl Index {
         true
     }
 
-    /// Settles a received datagram at the live peer with a serial: whether there is one.
+    /// Settles a received datagram at the live peer with a serial: whether there is one. The peer floats to the transport
+    /// that the datagram came from, unless a live peer has it already. `Err` is want of memory: then nothing changed.
     pub fn settle(
         &mut self,
         serial: u32,
         now: u32,
+        from: Option<Transport>,
         settled: Settled,
         inner: u32,
         outer: u32,
-    ) -> bool
+    ) -> Result<bool, Memory>
+        ensures there { IfOk result (λ there. there ≡ model.is_there serial self.old.live) }
+        ensures peers { OnOk result (self.new ≡ record self.old {
+          live = tables.change_first (tables.has_serial serial)
+              (λ p. model.settled_peer settled inner
+              (model.floated self.old.live from (model.received_peer now outer p)))
+              self.old.live;
+        }) }
+        ensures long { OnOk result (length self.new.live ≡ length self.old.live) }
+        ensures err { OnErr result (self.new ≡ self.old) }
+    {
+        self.float_if_free(serial, from)?;
+        Ok(self.received(serial, now, settled, inner, outer))
+    }
+
+    /// The live peer with a serial moves to `from`, where that is given and no live peer has it.
+    fn float_if_free(&mut self, serial: u32, from: Option<Transport>) -> Result<(), Memory>
+        ensures peers { OnOk result (self.new ≡ record self.old {
+          live = tables.change_first (tables.has_serial serial)
+              (model.floated self.old.live from) self.old.live;
+        }) }
+        ensures err { OnErr result (self.new ≡ self.old) }
+    {
+        let Some(from) = from else {
+            return Ok(());
+        };
+        if self.by_remote(from).is_some() {
+            return Ok(());
+        }
+        self.float(serial, from)
+    }
+
+    /// Counts a received datagram at the live peer with a serial: whether there is one.
+    fn received(&mut self, serial: u32, now: u32, settled: Settled, inner: u32, outer: u32) -> bool
         ensures there { result ≡ model.is_there serial self.old.live }
         ensures peers { self.new ≡ record self.old {
           live = tables.change_first (tables.has_serial serial)
@@ -71,11 +108,9 @@ impl Index {
         true
     }
 
-    /// The live peer with a serial moves to another remote, which no live peer has: whether there is one. `Err` is
-    /// want of memory: then nothing changed.
-    pub fn float(&mut self, serial: u32, to: Transport) -> Result<bool, Memory>
+    /// The live peer with a serial moves to another remote, which no live peer has.
+    fn float(&mut self, serial: u32, to: Transport) -> Result<(), Memory>
         requires { is_some (tables.by_remote to self.old.live) ≡ false }
-        ensures there { IfOk result (λ there. there ≡ model.is_there serial self.old.live) }
         ensures peers { OnOk result (self.new ≡ record self.old {
           live = tables.change_first (tables.has_serial serial)
               (λ p. record p { remote = to }) self.old.live;
@@ -84,13 +119,13 @@ impl Index {
     {
         make_room(&mut self.owners)?;
         let Some(mut peer) = take_at(&mut self.peers, serial as usize) else {
-            return Ok(false);
+            return Ok(());
         };
         take_all(&mut self.owners, &peer);
         peer.float(to);
         put_all(&mut self.owners, &peer);
         put_at(&mut self.peers, serial as usize, peer);
-        Ok(true)
+        Ok(())
     }
 
     /// Puts the next key that is made into a slot of the live peer with an id, and gives what stood there. `Err` is
@@ -104,6 +139,7 @@ impl Index {
           live = tables.change_first (tables.has_id id) (model.with_key slot key) self.old.live;
           keys_made = self.old.keys_made + 1;
         }) }
+        ensures long { OnOk result (length self.new.live ≡ length self.old.live) }
         ensures err { OnErr result (self.new ≡ self.old) }
     {
         let Some(serial) = owner_of(&self.owners, Name::Id(id.get())) else {
@@ -125,6 +161,7 @@ impl Index {
           live = tables.change_first (tables.has_serial serial)
               (λ q. record q { slots = tables.without_key key q.slots }) self.old.live;
         } }
+        ensures long { length self.new.live ≡ length self.old.live }
     {
         let Some(mut peer) = take_at(&mut self.peers, serial as usize) else {
             return None;

@@ -67,6 +67,22 @@ impl Index {
         Some(peer)
     }
 
+    /// Whether a live peer has this serial.
+    #[tactic(auto, using(crate::proofs::Held::any_is))]
+    pub fn has_serial(&self, serial: u32) -> bool
+        ensures { result ≡ model.is_there serial self.now.live }
+    {
+        self.by_serial(serial).is_some()
+    }
+
+    /// Whether a live peer has the key with this serial in a slot.
+    #[tactic(auto, using(crate::proofs::Held::any_is))]
+    pub fn has_key(&self, key: u32) -> bool
+        ensures { result ≡ list_any (model.has_key key) self.now.live }
+    {
+        self.by_key(key).is_some()
+    }
+
     /// Whether a live peer has one of the VPN addresses in `attrs`.
     #[tactic(auto, using(crate::proofs::Held::shares_is))]
     pub fn shares_vpn(&self, attrs: &Attrs) -> bool

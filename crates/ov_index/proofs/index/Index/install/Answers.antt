@@ -1,12 +1,14 @@
-use Rattle.std.proofs.Common.{rules, sym, ◌∙◌, ap, ◌≡◌, ◌<◌, ◌++◌, ◌∷◌, [], ◌+◌, length}
-use Rattle.std.specs.Prelude.{Some, None, vec_len, slice_set}
+use Rattle.std.proofs.Common.{rules, sym, ◌∙◌, ap, ◌≡◌, ◌<◌, ◌++◌, ◌∷◌, [], ◌+◌, length, subst, refl, arith, Bool, true, false, List}
+use Rattle.std.specs.Prelude.{Option, Some, None, vec_len, slice_set}
 use Rattle.std.specs.HashMap.{get}
 use Rattle.ov_model.specs.Tables.{Peer}
 use Rattle.ov_index.specs.Names.{same_name}
-use Rattle.ov_index.specs.Index.{present}
-use Rattle.ov_index.proofs.Slots.{set_set, standing_at, standing_within}
+use Rattle.ov_index.specs.Index.{Indexed, present, standing}
+use Rattle.ov_index.proofs.Held.{length_changed, length_without}
+use Rattle.ov_index.proofs.Slots.{set_set, hole_where_none, standing_at, standing_within, At, Nowhere}
 use Rattle.ov_model.specs.Tables.{change_first, has_id, by_id, in_slot}
 use Rattle.ov_model.specs.Step.{with_key}
+use Rattle.std.specs.Prelude.{is_some}
 use Rattle.ov_index.specs.declared.name.Name.TheVariants.{Id}
 use Rattle.ov_index.proofs.Held.{named_at, named_nowhere, not_both}
 use Rattle.ov_index.proofs.Changed.{got_key, same_one}
@@ -47,3 +49,6 @@ returns-clause-now c =
     let made : vec_len c.put_at.new.peers ≡ c.args.self.now.made = search rules in
     let keys : vec_len c.push.new.self ≡ c.args.self.now.keys_made + 1 = search rules in
     λ i. record { live = live i; made = made i; keys_made = keys i }
+
+pub returns-clause-long : goal.returns-clause-long
+returns-clause-long c = ap (λ (x : Indexed). length x.live) (returns-clause-now c) ∙ length_changed (has_id c.args.id) (with_key c.args.slot c.args.key) c.args.self.now.live

@@ -1,10 +1,11 @@
-use Rattle.std.proofs.Common.{rules, sym, ◌∙◌, ap, ◌≡◌, ◌<◌, length}
-use Rattle.std.specs.Prelude.{Some, None, vec_len, slice_set}
+use Rattle.std.proofs.Common.{rules, sym, ◌∙◌, ap, ◌≡◌, ◌<◌, ◌++◌, ◌∷◌, [], ◌+◌, length, subst, refl, arith, Bool, true, false, List}
+use Rattle.std.specs.Prelude.{Option, Some, None, vec_len, slice_set}
 use Rattle.std.specs.HashMap.{get}
 use Rattle.ov_model.specs.Tables.{Peer}
 use Rattle.ov_index.specs.Names.{same_name}
-use Rattle.ov_index.specs.Index.{present, standing}
-use Rattle.ov_index.proofs.Slots.{set_set, hole_where_none, standing_at, standing_within}
+use Rattle.ov_index.specs.Index.{Indexed, present, standing}
+use Rattle.ov_index.proofs.Held.{length_changed, length_without}
+use Rattle.ov_index.proofs.Slots.{set_set, hole_where_none, standing_at, standing_within, At, Nowhere}
 use Rattle.ov_model.specs.Tables.{change_first, has_serial, without_key}
 use Rattle.ov_index.specs.Index.{key_taken}
 use Rattle.ov_index.proofs.Changed.{lost_key}
@@ -61,3 +62,9 @@ returns-clause-now c =
     let made : vec_len c.put_at.new.peers ≡ c.args.self.now.made = search rules in
     let keys : vec_len c.self.inside.homes ≡ c.args.self.now.keys_made = search rules in
     λ i. record { live = live i; made = made i; keys_made = keys i }
+
+pub returns-in_default-clause-long : goal.returns-in_default-clause-long
+returns-in_default-clause-long c = ap (λ (x : Indexed). length x.live) (returns-in_default-clause-now c) ∙ length_changed (has_serial c.args.serial) (λ q. record q { slots = without_key c.args.key q.slots }) c.args.self.now.live
+
+pub returns-clause-long : goal.returns-clause-long
+returns-clause-long c = ap (λ (x : Indexed). length x.live) (returns-clause-now c) ∙ length_changed (has_serial c.args.serial) (λ q. record q { slots = without_key c.args.key q.slots }) c.args.self.now.live

@@ -1,12 +1,14 @@
-use Rattle.std.proofs.Common.{rules, sym, ◌∙◌, ap, ◌≡◌}
-use Rattle.std.specs.Prelude.{vec_len}
+use Rattle.std.proofs.Common.{rules, sym, ◌∙◌, ap, ◌≡◌, ◌<◌, ◌++◌, ◌∷◌, [], ◌+◌, length, subst, refl, arith, Bool, true, false, List}
+use Rattle.std.specs.Prelude.{Option, Some, None, vec_len, slice_set}
 use Rattle.std.specs.HashMap.{get}
+use Rattle.ov_model.specs.Tables.{Peer}
 use Rattle.ov_index.specs.Names.{same_name}
-use Rattle.ov_index.specs.Index.{present}
-use Rattle.ov_index.proofs.Slots.{standing_at}
-use Rattle.ov_model.specs.Tables.{without_first, has_id}
+use Rattle.ov_index.specs.Index.{Indexed, present, standing}
+use Rattle.ov_index.proofs.Held.{length_changed, length_without}
+use Rattle.ov_index.proofs.Slots.{set_set, hole_where_none, standing_at, standing_within, At, Nowhere}
+use Rattle.ov_model.specs.Tables.{without_first, has_id, by_id}
 use Rattle.ov_index.specs.declared.name.Name.TheVariants.{Id}
-use Rattle.ov_index.proofs.Held.{named_at, named_nowhere, standing_there}
+use Rattle.ov_index.proofs.Held.{named_at, named_there, named_nowhere, standing_there}
 use Rattle.ov_index.proofs.Changed.{taken_out}
 use Rattle.ov_index.proofs.index.Index.remove.Goals as goal
 
@@ -42,3 +44,8 @@ returns-clause-now c =
     let made : vec_len c.take_at.new.peers ≡ c.args.self.now.made = search rules in
     let keys : vec_len c.self.inside.homes ≡ c.args.self.now.keys_made = search rules in
     λ i. record { live = live i; made = made i; keys_made = keys i }
+
+pub returns-clause-fewer : goal.returns-clause-fewer
+returns-clause-fewer c =
+    let found : by_id c.args.id c.args.self.now.live ≡ Some c.in-Some-take_at.peer = sym (returns-clause-was c) in
+    ap (λ (x : Indexed). length x.live + 1) (returns-clause-now c) ∙ length_without (has_id c.args.id) c.args.self.now.live c.in-Some-take_at.peer found
