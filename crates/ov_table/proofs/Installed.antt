@@ -1,5 +1,5 @@
 -- Each key that a told table still has is as the journal's key-new with its serial installed it.
-use Rattle.std.proofs.Common.{ℕ, ◌+◌, ◌≡◌, ◌≤◌, ◌∙◌, sym, ap, List, [], ◌∷◌, ◌++◌, refl, subst, Bool, true, false, if◌then◌else◌, ◌==◌, arith, append-nil, append_assoc}
+use Rattle.std.proofs.Common.{ℕ, ◌+◌, ◌≡◌, ◌≤◌, ◌∙◌, sym, ap, List, [], ◌∷◌, ◌++◌, refl, subst, true, false, if◌then◌else◌, ◌==◌, arith, append-nil, append_assoc}
 use Rattle.std.specs.Prelude.{Option, Some, None, find, max}
 use Rattle.std.specs.List.{AllByRecursion}
 use Rattle.std.specs.Option.{option_or}

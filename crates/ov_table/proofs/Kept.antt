@@ -1,10 +1,9 @@
 -- What holds of each key that a table has, holds of each that it has after a step, but for a new key.
-use Rattle.std.proofs.Common.{ℕ, ◌≡◌, ◌+◌, List, [], ◌∷◌, ◌++◌, refl, Bool, true, false, if◌then◌else◌, ◌==◌}
-use Rattle.std.specs.Prelude.{Option, Some, None, is_some}
+use Rattle.std.proofs.Common.{ℕ, ◌≡◌, ◌+◌, [], ◌∷◌, refl, Bool, true, false, if◌then◌else◌, ◌==◌}
+use Rattle.std.specs.Prelude.{Option, Some, None}
 use Rattle.std.specs.List.{AllByRecursion}
 use Rattle.ov_base.specs.declared.address.Transport.{Transport}
 use Rattle.ov_model.specs.declared.ident.PeerId.{PeerId}
-use Rattle.ov_model.specs.declared.ident.KeyId.{KeyId}
 use Rattle.ov_model.specs.declared.command.Attrs.{Attrs}
 use Rattle.ov_model.specs.declared.command.KeyConf.{KeyConf}
 use Rattle.ov_model.specs.declared.command.Reason.{Reason}
@@ -17,7 +16,7 @@ use Rattle.ov_model.specs.declared.reply.Reply.{Reply}
 use Rattle.ov_model.specs.declared.reply.Reply.TheVariants as reply
 use Rattle.ov_model.specs.declared.reply.Errno.{Errno}
 use Rattle.ov_model.specs.declared.reply.Errno.TheVariants.{NoEntry}
-use Rattle.ov_model.specs.Tables.{Peer, Key, Slots, Table, no_keys, in_slot, with_slot, key_if_any, keys_in, keys_of, is_key, without_key, without_first, has_id, has_serial, by_key, by_id, by_serial, by_vpn, by_key_id}
+use Rattle.ov_model.specs.Tables.{Peer, Key, Slots, Table, no_keys, in_slot, with_slot, key_if_any, keys_in, keys_of, is_key, without_key, has_id, has_serial, by_key, by_id, by_serial, by_vpn, by_key_id}
 use Rattle.ov_model.specs.Step as model
 use Rattle.ov_model.specs.Step.{peer_new, peer_get, remove_peer, key_new, tx_look, rx_look, sent, settle, spend, released, key_released}
 use Rattle.ov_model.proofs.Firsts.{all_found, all_without, all_changed}

@@ -4,7 +4,7 @@ pub mod Held
 pub mod Installed
 -- What holds of each key that a table has, holds of each that it has after a step, but for a new key.
 pub mod Kept
--- What a step of the definitions is where its peer has a place in the live list.
+-- What a step of the definitions is where its peer was found.
 pub mod Outcomes
 -- The first place of a list at which a test passes: who stands there, and what a change there makes of the
 -- list.

@@ -3,7 +3,6 @@
 
 mod find;
 mod outcome;
-mod peer;
 mod peers;
 mod retired;
 mod room;

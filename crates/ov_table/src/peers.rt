@@ -16,8 +16,8 @@ mod uses;
 
 use crate::find;
 use crate::outcome::Outcome;
-use crate::peer::Peer;
 use ov_base::Memory;
+use ov_index::{Index, Peer};
 use ov_keys::{KeyPair, KeyRec};
 use ov_model::{Act, Errno, Owed, Reply};
 use std::alloc::Global;
@@ -28,7 +28,7 @@ use std::marker::Model;
 #[derive(Drop)]
 pub struct Peers {
     alloc: Global,
-    live: Vec<Peer>,
+    live: Index,
     dying: Vec<Peer>,
     retired: Vec<KeyRec>,
     made: u32,
@@ -37,14 +37,14 @@ pub struct Peers {
 }
 
 impl Model for Peers {
-    ghost use Rattle.std.specs.Prelude.{◌≤◌, ◌+◌, length};
+    ghost use Rattle.std.specs.Prelude.{◌≡◌, ◌≤◌, ◌+◌, length};
     ghost use Rattle.ov_model.specs.Limits.{most_peers, most_keys};
     ghost use Rattle.ov_model.specs.Tables.{Table};
 
     ghost Value = { Table };
 
     ghost view = { λ t. record {
-      live = t.live.items;
+      live = t.live.live;
       dying = t.dying.items;
       retired = t.retired.items;
       made = t.made;
@@ -53,7 +53,8 @@ impl Model for Peers {
     } };
 
     ghost invariant = { λ t. (t.made ≤ most_peers) ×
-        (length t.live.items + length t.dying.items ≤ t.made) × (t.keys_made ≤ most_keys) };
+        (length t.live.live + length t.dying.items ≤ t.made) × (t.keys_made ≤ most_keys) ×
+        (t.live.made ≡ t.made) × (t.live.keys_made ≡ t.keys_made) };
 }
 
 impl Peers {
@@ -63,7 +64,7 @@ impl Peers {
     {
         Peers {
             alloc,
-            live: Vec::new(alloc),
+            live: Index::new(alloc),
             dying: Vec::new(alloc),
             retired: Vec::new(alloc),
             made: 0,
@@ -72,13 +73,12 @@ impl Peers {
         }
     }
 
-    /// How many entries one step needs with all the releases that may follow it: a step takes at most two
-    /// keys out of their slots. `None` is a number past the greatest usize.
+    /// Room for the entry of one step with all the releases that may follow it: a step takes at most two keys out of
+    /// their slots, and no more peers are there than were made. `None` is a number past the greatest usize.
     pub fn room(&self) -> Option<usize>
-        ensures { IfSome result (λ n. n ≡ unreleased self.now + 3) }
+        ensures { IfSome result (λ n. unreleased self.now + 3 ≤ n) }
     {
-        let peers = self.live.len() + self.dying.len();
-        self.retired.len().checked_add(peers + 3)
+        self.retired.len().checked_add(self.made as usize + 3)
     }
 
     /// The greater of the table's moment and `at`.
@@ -97,7 +97,7 @@ impl Peers {
             Act::Sent { peer, .. } | Act::Settle { peer, .. } => self.is_there(peer),
             Act::Spend { peer, key } => {
                 self.is_there(peer)
-                    && (find::has_key(&self.live, key) || find::has_key_serial(&self.retired, key))
+                    && (self.live.has_key(key) || find::has_key_serial(&self.retired, key))
             }
             Act::Released(peer) => find::has_serial(&self.dying, peer),
             Act::KeyReleased(key) => find::has_key_serial(&self.retired, key),
@@ -109,7 +109,7 @@ impl Peers {
         ensures { result ≡
             (model.is_there peer self.now.live || model.is_there peer self.now.dying) }
     {
-        find::has_serial(&self.live, peer) || find::has_serial(&self.dying, peer)
+        self.live.has_serial(peer) || find::has_serial(&self.dying, peer)
     }
 
     /// What may be let go first: a retired key, or else a dying peer.
@@ -159,7 +159,7 @@ impl Peers {
                 kind,
                 inner,
                 outer,
-            } => Ok(self.settle(now, peer, from, kind, inner, outer)),
+            } => self.settle(now, peer, from, kind, inner, outer),
             Act::Spend { peer, key } => self.spend(now, peer, key),
             Act::Released(_) | Act::KeyReleased(_) => unreachable!(),
         }

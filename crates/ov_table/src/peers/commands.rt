@@ -1,16 +1,14 @@
 //! The commands of the netlink family.
 
-ghost use Rattle.std.specs.Prelude.{◌≡◌, ◌≤◌, ◌<◌, ◌+◌, List, [], ◌∷◌, Some, length, slice_get, remove, IfOk, OnOk, OnErr};
+ghost use Rattle.std.specs.Prelude.{◌≡◌, ◌≤◌, ◌+◌, List, [], ◌∷◌, Some, true, is_some, IfOk, OnOk, OnErr};
 ghost use Rattle.ov_model.specs.declared.reply.Reply.TheVariants as reply;
 ghost use Rattle.ov_model.specs.Step as model;
-ghost use Rattle.ov_model.specs.Tables.{Peer};
-ghost use Rattle.ov_table.specs.Outcomes.{outcome, key_put};
+ghost use Rattle.ov_model.specs.Tables.{Peer, by_id, has_id, without_first};
+ghost use Rattle.ov_table.specs.Outcomes.{outcome};
 ghost use Rattle.ov_table.specs.Recorded.{unreleased};
 
 use super::Peers;
-use crate::find;
 use crate::outcome::Outcome;
-use crate::peer::Peer;
 use crate::retired::{retire, retire_all};
 use crate::room::push_within;
 use ov_base::{Boxed, ListOf, Memory};
@@ -50,16 +48,16 @@ impl Peers {
         if attrs.vpn4.is_none() && attrs.vpn6.is_none() {
             return Ok(self.refuse(now, Errno::Invalid));
         }
-        if find::with_id(&self.live, attrs.id).is_some()
-            || find::shares_vpn(&self.live, attrs)
-            || find::with_remote(&self.live, remote).is_some()
+        if self.live.by_id(attrs.id).is_some()
+            || self.live.shares_vpn(attrs)
+            || self.live.by_remote(remote).is_some()
         {
             return Ok(self.refuse(now, Errno::Exists));
         }
         if self.made >= MOST_PEERS {
             return Ok(self.refuse(now, Errno::NoSpace));
         }
-        self.live.push(Peer::new(self.made, now, attrs, remote))?;
+        self.live.add(self.made, now, attrs, remote)?;
         let serial = self.made;
         self.made += 1;
         self.moment = now;
@@ -74,10 +72,10 @@ impl Peers {
         ensures more { OnOk result (unreleased self.new ≤ unreleased self.old + 2) }
         ensures err { OnErr result (self.new ≡ self.old) }
     {
-        let Some(peer) = find::with_id(&self.live, id) else {
+        let Some(shown) = self.live.by_id(id) else {
             return Ok(self.refuse(now, Errno::NoEntry));
         };
-        let view = peer.view();
+        let view = shown.view();
         let reply = Reply::Peer(Boxed::new(self.alloc, view)?);
         let kept = Reply::Peer(Boxed::new(self.alloc, view)?);
         self.moment = now;
@@ -93,30 +91,35 @@ impl Peers {
         ensures more { OnOk result (unreleased self.new ≤ unreleased self.old + 2) }
         ensures err { OnErr result (self.new ≡ self.old) }
     {
-        let Some(place) = find::place_of_id(&self.live, id) else {
+        if self.live.by_id(id).is_none() {
             return Ok(self.refuse(now, Errno::NoEntry));
-        };
-        self.remove_at(now, place, reason)
+        }
+        self.remove_there(now, id, reason)
     }
 
-    /// The same for the live peer at a place of the list.
+    /// The same for a live peer.
     #[tactic(auto, using(crate::proofs::Outcomes::one_key))]
-    fn remove_at(&mut self, now: u32, place: usize, reason: Reason) -> Result<Outcome, Memory>
-        requires { place < length self.old.live }
-        ensures ok { IfOk result (λ o. (p : Peer) → slice_get self.old.live place ≡ Some p →
+    fn remove_there(&mut self, now: u32, id: PeerId, reason: Reason) -> Result<Outcome, Memory>
+        requires { is_some (by_id id self.old.live) ≡ true }
+        ensures ok { IfOk result (λ o. (p : Peer) → by_id id self.old.live ≡ Some p →
             outcome self.new o ≡
-            model.removals self.old now reason (p ∷ []) (remove self.old.live place)
+            model.removals self.old now reason (p ∷ []) (without_first (has_id id) self.old.live)
             (reply.Removed (p.serial ∷ []))) }
         ensures kept { IfOk result (λ o. o.kept ≡ o.reply) }
         ensures more { OnOk result (unreleased self.new ≤ unreleased self.old + 2) }
         ensures err { OnErr result (self.new ≡ self.old) }
     {
-        let serial = self.live[place].serial;
+        let Some(peer) = self.live.by_id(id) else {
+            unreachable!();
+        };
+        let serial = peer.serial;
         let reply = Reply::Removed(ListOf::of_vec(Vec::from_slice(self.alloc, &[serial])?));
         let kept = Reply::Removed(ListOf::of_vec(Vec::from_slice(self.alloc, &[serial])?));
         self.dying.reserve(1)?;
         self.retired.reserve(2)?;
-        let mut peer = self.live.remove(place);
+        let Some(mut peer) = self.live.remove(id) else {
+            unreachable!();
+        };
         let (first, second) = retire_all(&mut self.retired, &mut peer.slots);
         let note = Some(NoteBody::PeerDel {
             id: peer.id,
@@ -141,18 +144,20 @@ impl Peers {
         ensures more { OnOk result (unreleased self.new ≤ unreleased self.old + 2) }
         ensures err { OnErr result (self.new ≡ self.old) }
     {
-        let Some(place) = find::place_of_id(&self.live, conf.peer) else {
+        if self.live.by_id(conf.peer).is_none() {
             return Ok(self.refuse(now, Errno::NoEntry));
-        };
-        self.key_new_at(now, place, conf)
+        }
+        self.key_new_there(now, conf)
     }
 
-    /// The same for the live peer at a place of the list.
+    /// The same for a live peer.
     #[tactic(auto, using(crate::proofs::Outcomes::one_taken))]
-    fn key_new_at(&mut self, now: u32, place: usize, conf: &KeyConf) -> Result<Outcome, Memory>
-        requires { place < length self.old.live }
-        ensures ok { IfOk result (λ o. (p : Peer) → slice_get self.old.live place ≡ Some p →
-            outcome self.new o ≡ key_put self.old now conf.now place p) }
+    fn key_new_there(&mut self, now: u32, conf: &KeyConf) -> Result<Outcome, Memory>
+        requires { is_some (by_id conf.now.peer self.old.live) ≡ true }
+        ensures ok { IfOk result (λ o. (p : Peer) → by_id conf.now.peer self.old.live ≡ Some p →
+            outcome self.new o ≡
+            model.unless self.old now (model.key_new_checks self.old)
+            (model.key_made self.old now conf.now p)) }
         ensures kept { IfOk result (λ o. o.kept ≡ o.reply) }
         ensures more { OnOk result (unreleased self.new ≤ unreleased self.old + 2) }
         ensures err { OnErr result (self.new ≡ self.old) }
@@ -163,7 +168,7 @@ impl Peers {
         let serial = self.keys_made;
         let key = KeyRec::of(self.alloc, serial, conf)?;
         self.retired.reserve(1)?;
-        let was = self.live[place].install(conf.slot, key);
+        let was = self.live.install(conf.peer, conf.slot, key)?;
         let first = retire(&mut self.retired, was);
         self.keys_made += 1;
         self.moment = now;

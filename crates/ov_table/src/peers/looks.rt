@@ -8,8 +8,8 @@ ghost use Rattle.ov_table.specs.Recorded.{unreleased};
 use super::Peers;
 use crate::find;
 use crate::outcome::Outcome;
-use crate::peer::Peer;
 use ov_base::{Addr, Transport};
+use ov_index::Peer;
 use ov_keys::KeyRec;
 use ov_model::{HoldView, KeyId, PeerId, Reply};
 
@@ -23,7 +23,7 @@ impl Peers {
         ensures same { unreleased self.new ≡ unreleased self.old }
     {
         self.moment = now;
-        let Some(peer) = find::with_vpn(&self.live, to) else {
+        let Some(peer) = self.live.by_vpn(to) else {
             return Outcome::plain(Reply::NoPeer, Reply::NoPeer);
         };
         let Some(key) = peer.slots.primary() else {

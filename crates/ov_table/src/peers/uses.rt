@@ -1,18 +1,19 @@
 //! What is done with a held peer and key.
 
-ghost use Rattle.std.specs.Prelude.{◌≡◌, ◌≤◌, ◌<◌, ◌+◌, false, length, slice_get, Some, IfOk, OnOk, OnErr};
+ghost use Rattle.std.specs.Prelude.{◌≡◌, ◌≤◌, ◌+◌, true, false, length, Some, IfOk, OnOk, OnErr};
 ghost use Rattle.ov_model.specs.Step as model;
-ghost use Rattle.ov_model.specs.Tables.{change_first, has_serial};
+ghost use Rattle.ov_model.specs.Tables.{change_first, has_serial, by_serial, by_key};
+ghost use Rattle.ov_model.specs.declared.reply.Reply.TheVariants as reply;
 ghost use Rattle.ov_model.specs.Tables as tables;
-ghost use Rattle.ov_table.specs.Outcomes.{outcome, moved, spent_of};
+ghost use Rattle.ov_table.specs.Outcomes.{outcome};
 ghost use Rattle.ov_table.specs.Recorded.{unreleased};
 
 use super::Peers;
 use crate::find;
 use crate::outcome::Outcome;
-use crate::peer::Peer;
 use crate::room::push_within;
 use ov_base::{Memory, Transport};
+use ov_index::Peer;
 use ov_model::{InnerKind, NoteBody, Reply, Settled};
 
 impl Peers {
@@ -23,11 +24,13 @@ impl Peers {
         ensures kept { result.kept ≡ result.reply }
         ensures same { unreleased self.new ≡ unreleased self.old }
     {
+        let done = Outcome::plain(Reply::Done, Reply::Done);
         self.moment = now;
-        if !sent_in(&mut self.live, peer, now, inner, outer, ping) {
-            sent_in(&mut self.dying, peer, now, inner, outer, ping);
+        if self.live.sent(peer, now, inner, outer, ping) {
+            return done;
         }
-        Outcome::plain(Reply::Done, Reply::Done)
+        sent_in(&mut self.dying, peer, now, inner, outer, ping);
+        done
     }
 
     /// A fresh datagram of a held peer was opened: it is counted, a live peer may float to the transport
@@ -42,19 +45,22 @@ impl Peers {
         kind: InnerKind,
         inner: u32,
         outer: u32,
-    ) -> Outcome
-        ensures value { outcome self.new result ≡
-            model.settle self.old now peer from kind inner outer }
-        ensures kept { result.kept ≡ result.reply }
-        ensures same { unreleased self.new ≡ unreleased self.old }
+    ) -> Result<Outcome, Memory>
+        ensures ok { IfOk result (λ o. outcome self.new o ≡
+            model.settle self.old now peer from kind inner outer) }
+        ensures kept { IfOk result (λ o. o.kept ≡ o.reply) }
+        ensures more { OnOk result (unreleased self.new ≤ unreleased self.old + 2) }
+        ensures err { OnErr result (self.new ≡ self.old) }
     {
         let settled = find::settled_as(&self.live, peer, kind);
-        let to = find::free(&self.live, from);
+        let done = Outcome::plain(Reply::Settled(settled), Reply::Settled(settled));
+        let there = self.live.settle(peer, now, from, settled, inner, outer)?;
         self.moment = now;
-        if !settle_in(&mut self.live, peer, now, to, settled, inner, outer) {
-            settle_in(&mut self.dying, peer, now, None, settled, inner, outer);
+        if there {
+            return Ok(done);
         }
-        Outcome::plain(Reply::Settled(settled), Reply::Settled(settled))
+        settle_in(&mut self.dying, peer, now, settled, inner, outer);
+        Ok(done)
     }
 
     /// A held key gave its last packet id. Where it stands in a slot of the live peer it is retired, and
@@ -65,29 +71,35 @@ impl Peers {
         ensures more { OnOk result (unreleased self.new ≤ unreleased self.old + 2) }
         ensures err { OnErr result (self.new ≡ self.old) }
     {
-        let Some(place) = find::place_of_serial(&self.live, peer) else {
+        if !self.live.has_serial(peer) {
             self.moment = now;
             return Ok(Outcome::plain(Reply::AlreadyGone, Reply::AlreadyGone));
-        };
-        self.spend_at(now, place, key)
+        }
+        self.spend_there(now, peer, key)
     }
 
-    /// The same for the live peer at a place of the list.
-    fn spend_at(&mut self, now: u32, place: usize, key: u32) -> Result<Outcome, Memory>
-        requires { place < length self.old.live }
-        ensures ok { IfOk result (λ o. (p : tables.Peer) → slice_get self.old.live place ≡ Some p →
-            outcome self.new o ≡ spent_of self.old now place key p) }
+    /// The same for a live peer.
+    fn spend_there(&mut self, now: u32, peer: u32, key: u32) -> Result<Outcome, Memory>
+        requires { model.is_there peer self.old.live ≡ true }
+        ensures ok { IfOk result (λ o. (p : tables.Peer) →
+            by_serial peer self.old.live ≡ Some p →
+            outcome self.new o ≡
+            model.where_found self.old now reply.AlreadyGone (by_key key p.slots)
+            (model.spent_key self.old now peer key p)) }
         ensures kept { IfOk result (λ o. o.kept ≡ o.reply) }
         ensures more { OnOk result (unreleased self.new ≤ unreleased self.old + 2) }
         ensures err { OnErr result (self.new ≡ self.old) }
     {
         self.retired.reserve(1)?;
         self.moment = now;
-        if self.live[place].slots.by_key(key).is_none() {
+        let Some(held) = self.live.by_serial(peer) else {
+            unreachable!();
+        };
+        let id = held.id;
+        if held.slots.by_key(key).is_none() {
             return Ok(Outcome::plain(Reply::AlreadyGone, Reply::AlreadyGone));
         }
-        let id = self.live[place].id;
-        let Some(killed) = self.live[place].kill(key) else {
+        let Some(killed) = self.live.kill(peer, key) else {
             unreachable!();
         };
         let note = Some(NoteBody::KeySwap {
@@ -120,13 +132,11 @@ fn sent_in(peers: &mut Vec<Peer>, serial: u32, now: u32, inner: u32, outer: u32,
     true
 }
 
-/// Settles a received datagram at the first peer with a serial, whose remote becomes `to` where that is given:
-/// whether there is one.
+/// Settles a received datagram at the first peer with a serial: whether there is one.
 fn settle_in(
     peers: &mut Vec<Peer>,
     serial: u32,
     now: u32,
-    to: Option<Transport>,
     settled: Settled,
     inner: u32,
     outer: u32,
@@ -134,7 +144,7 @@ fn settle_in(
     ensures there { result ≡ model.is_there serial peers.old.items }
     ensures peers { peers.new.items ≡
         change_first (has_serial serial)
-        (λ p. model.settled_peer settled inner (moved to (model.received_peer now outer p)))
+        (λ p. model.settled_peer settled inner (model.received_peer now outer p))
         peers.old.items }
     ensures absent { result ≡ false → peers.new.items ≡ peers.old.items }
     ensures long { length peers.new.items ≡ length peers.old.items }
@@ -142,6 +152,6 @@ fn settle_in(
     let Some(place) = find::place_of_serial(peers, serial) else {
         return false;
     };
-    peers[place].settle(now, to, settled, inner, outer);
+    peers[place].settle(now, None, settled, inner, outer);
     true
 }

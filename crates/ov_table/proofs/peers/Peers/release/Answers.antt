@@ -1,4 +1,4 @@
-use Rattle.std.proofs.Common.{rules, ◌≡◌, position, Some}
+use Rattle.std.proofs.Common.{rules}
 use Rattle.ov_model.specs.Tables.{has_serial}
 use Rattle.ov_table.proofs.Places.{place_there}
 use Rattle.ov_table.proofs.Outcomes.{released_as}

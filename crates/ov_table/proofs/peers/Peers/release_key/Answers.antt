@@ -1,4 +1,4 @@
-use Rattle.std.proofs.Common.{rules, ◌≡◌, position, Some}
+use Rattle.std.proofs.Common.{rules}
 use Rattle.ov_model.specs.Step.{has_key_serial}
 use Rattle.ov_table.proofs.Places.{place_there}
 use Rattle.ov_table.proofs.Outcomes.{key_released_as}

@@ -1,19 +1,19 @@
-use Rattle.std.proofs.Common.{rules, position, Some, ◌≡◌, List, [], ◌∷◌, remove}
+use Rattle.std.proofs.Common.{rules, None, ◌≡◌, [], ◌∷◌}
 use Rattle.ov_model.specs.declared.reply.Reply.TheVariants as reply
 use Rattle.ov_model.specs.Step as model
-use Rattle.ov_model.specs.Tables.{has_id}
+use Rattle.ov_model.specs.Tables.{has_id, by_id, without_first}
 use Rattle.ov_table.specs.Outcomes.{outcome}
-use Rattle.ov_table.proofs.Places.{first_at}
-use Rattle.ov_table.proofs.Outcomes.{removed_as, removed_none, ok_at}
+use Rattle.ov_table.proofs.Outcomes.{some_of, none_of, removed_found, removed_none, ok_found}
 use Rattle.ov_table.proofs.peers.Peers.remove.Goals as goal
 
-pub returns-in_default-clause-ok : goal.returns-in_default-clause-ok
-returns-in_default-clause-ok c = rw (removed_none c.args.self.now c.args.now c.args.id c.args.reason (search rules)) c.refuse.ensures.value
+pub returns-then-is_none-clause-ok : goal.returns-then-is_none-clause-ok
+returns-then-is_none-clause-ok c =
+    let none : by_id c.args.id c.args.self.now.live ≡ None = none_of (by_id c.args.id c.args.self.now.live) (search rules) in
+    rw (removed_none c.args.self.now c.args.now c.args.id c.args.reason none) c.refuse.ensures.value
 
 pub returns-clause-ok : goal.returns-clause-ok
 returns-clause-ok c =
-    let place : position (has_id c.args.id) c.args.self.now.live ≡ Some c.in-Some.place = search rules in
-    let first = first_at (has_id c.args.id) c.args.self.now.live c.in-Some.place place in
-    rw (removed_as c.args.self.now c.args.now c.in-Some.place c.args.id c.args.reason place)
-    (ok_at (λ o p. outcome c.remove_at.new.self o ≡ model.removals c.args.self.now c.args.now c.args.reason (p ∷ []) (remove c.args.self.now.live c.in-Some.place) (reply.Removed (p.serial ∷ [])))
-    c.args.self.now.live c.in-Some.place first.item c.remove_at.result first.at c.remove_at.ensures.ok)
+    let found = some_of (by_id c.args.id c.args.self.now.live) (search rules) in
+    rw (removed_found c.args.self.now c.args.now c.args.id c.args.reason found.0 found.1)
+    (ok_found (λ o p. outcome c.remove_there.new.self o ≡ model.removals c.args.self.now c.args.now c.args.reason (p ∷ []) (without_first (has_id c.args.id) c.args.self.now.live) (reply.Removed (p.serial ∷ [])))
+    (by_id c.args.id c.args.self.now.live) found.0 c.remove_there.result found.1 c.remove_there.ensures.ok)

@@ -1,4 +1,4 @@
-use Rattle.std.proofs.Common.{rules, ◌==◌, sym}
+use Rattle.std.proofs.Common.{rules, sym}
 use Rattle.ov_model.specs.Tables.{has_serial}
 use Rattle.ov_table.proofs.Places.{none_fits, first_at, changed_at}
 use Rattle.ov_table.proofs.peers.uses.sent_in.Goals as goal

@@ -1,4 +1,5 @@
-use Rattle.std.proofs.Common.{rules, arith}
+use Rattle.std.proofs.Common.{rules, arith, ◌+◌, ◌≤◌}
+use Rattle.ov_table.specs.Recorded.{unreleased}
 use Rattle.ov_table.proofs.Told.{told_after}
 use Rattle.ov_table.proofs.table.Table.act.Goals as goal
 
@@ -12,5 +13,5 @@ invariant_of-self-2 c = (
       (search rules)
       (search rules)
       c.self.invariant.0,
-  omega (arith, c.in_ok-reserve.ensures.ok, c.in_ok-outcome.ensures.more),
+  (let room : unreleased c.self.inside.peers + 3 ≤ c.in-Some.room = search rules in omega (arith, c.in_ok-reserve.ensures.ok, c.in_ok-outcome.ensures.more)),
 )

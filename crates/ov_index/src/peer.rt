@@ -3,7 +3,7 @@
 ghost use Rattle.std.specs.Prelude.{◌≡◌, Some};
 ghost use Rattle.ov_model.specs.Step as model;
 ghost use Rattle.ov_model.specs.Tables.{view_of, in_slot, with_slot, by_key, without_key};
-ghost use Rattle.ov_table.specs.Outcomes.{moved};
+ghost use Rattle.ov_index.specs.Index.{moved};
 
 use ov_base::Transport;
 use ov_keys::{KeyRec, Slots};
@@ -140,6 +140,13 @@ impl Peer {
             up(&mut self.counts.vpn_rx_bytes, inner);
             up(&mut self.counts.vpn_rx_packets, 1);
         }
+    }
+
+    /// The peer moves to another remote.
+    pub fn float(&mut self, to: Transport)
+        ensures { self.new ≡ record self.old { remote = to } }
+    {
+        self.remote = to;
     }
 }
 

@@ -1,0 +1,8 @@
+-- What a map's own test of its keys says of names.
+pub mod Keys
+-- The members of a list with holes: the one that fits is found, changed or taken out where it stands.
+pub mod Slots
+-- What the maps of an index say of its places, and that they go on saying it.
+pub mod Held
+-- The index goes on saying the truth where one peer is changed or taken out.
+pub mod Changed

@@ -1,0 +1,11 @@
+//! The live peers in the order of making, found by id, by VPN address, by transport and by serial without a search.
+#![tactic(auto)]
+
+mod index;
+mod name;
+mod names;
+mod peer;
+mod places;
+
+pub use index::Index;
+pub use peer::Peer;
