@@ -1,5 +1,6 @@
 -- What a shard's windows stand for, and what they stand for after a step.
-use Rattle.std.proofs.Common.{◌≡◌, ℕ, max, false, List, [], ◌∷◌, ◌++◌, Option, None, Some, MatchOption, refl, ◌∙◌, inl, inr, subst, arith}
+use Rattle.std.proofs.Common.{◌≡◌, ℕ, max, false, List, [], ◌∷◌, ◌++◌, Option, None, Some, Result, Ok, Err, refl, sym, ◌∙◌, inl, inr, subst, true≢false, arith}
+use Rattle.std.specs.Result.{IsOk, OnErr}
 use Rattle.std.specs.BTreeMap.{BTreeMap, get, IsUnchanged, Updates, is_at}
 use Rattle.std.specs.Ordering.{nat_cmp}
 use Rattle.std.proofs.lemmas.Bool.{cases_eq, eq-eqb, ne_eqb}
@@ -9,14 +10,30 @@ use Rattle.ov_model.proofs.ReplayLemmas.{steps_of-push, moment_of-push, accepts_
 use Rattle.ov_model.specs.declared.place.Place.{Place}
 use Rattle.ov_model.specs.declared.replay.ReplayEntry.{ReplayEntry}
 use Rattle.ov_model.specs.declared.replay.Verdict.{Verdict}
-use Rattle.ov_replay.specs.Shard.{IsShard, WindowStands}
+use Rattle.ov_replay.specs.Shard.{IsShard, WindowStands, WindowJudges, Judges}
 use Rattle.ov_replay.specs.Window.{Stands}
 use Rattle.ov_replay.specs.declared.window.Window.{Window}
 
--- A key's window, or a new one, stands for the key's steps.
-pub stands_for : (found : Option Window) (steps : List ReplayEntry) (w : Window) → WindowStands found steps → MatchOption found (Stands w [] 0) (λ x. w ≡ x) → Stands w (accepts_of steps) (moment_of steps)
-stands_for None steps w none fresh = rw none fresh
-stands_for (Some x) steps w stands same = rw same stands
+-- The window that a key has, and the new one that it gets where it has none, stand for the key's steps.
+pub stood_found : (found : Option Window) (w : Window) → found ≡ Some w → (steps : List ReplayEntry) → WindowStands found steps → Stands w (accepts_of steps) (moment_of steps)
+stood_found found w here steps stands = rw here at stands
+
+pub stood_new : (found : Option Window) (w : Window) → found ≡ None → Stands w [] 0 → (steps : List ReplayEntry) → WindowStands found steps → Stands w (accepts_of steps) (moment_of steps)
+stood_new found w none fresh steps stands =
+    let empty : steps ≡ [] = rw none at stands in
+    rw empty fresh
+
+-- What is always Ok is never an error.
+pub OnErr-from_ok : {T E : Type 0} (r : Result T E) (P : Type 0) → IsOk r → OnErr r P
+OnErr-from_ok (Ok x) P ok = tt
+OnErr-from_ok (Err y) P ok = absurd (true≢false (sym ok))
+
+-- A step on a key's window, where it lies among the others.
+pub Judges-in_place : (before after : BTreeMap ℕ Window) (key id at : ℕ) (was now : Window) (verdict : Verdict) (moment : ℕ)
+    → get nat_cmp before key ≡ Some was → Updates nat_cmp before after key (Some now)
+    → WindowJudges was now id at verdict moment → Judges before after key id at verdict moment
+Judges-in_place before after key id at was now verdict moment here updates judged =
+    record { was = was; now = now; stood = stood_found _ was here; judged = judged; updates = updates }
 
 -- The same entries of the map are the same windows.
 pub IsShard-unchanged : (number : ℕ) (windows after : BTreeMap ℕ Window) (entries : List ReplayEntry) → IsUnchanged windows after → IsShard number windows entries → IsShard number after entries

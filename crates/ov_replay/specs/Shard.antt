@@ -1,9 +1,10 @@
 -- What a shard keeps true of its windows.
-use Rattle.std.specs.Prelude.{◌≡◌, ℕ, List, [], Option, None, Some}
-use Rattle.std.specs.BTreeMap.{BTreeMap, get}
+use Rattle.std.specs.Prelude.{◌≡◌, ℕ, max, List, [], ◌++◌, Option, None, Some}
+use Rattle.std.specs.BTreeMap.{BTreeMap, get, Updates}
 use Rattle.std.specs.Ordering.{nat_cmp}
-use Rattle.ov_model.specs.Replay.{ShardJudges, steps_of, accepts_of, moment_of}
+use Rattle.ov_model.specs.Replay.{Accepted, ShardJudges, steps_of, accepts_of, accepted_by, moment_of, verdict_of}
 use Rattle.ov_model.specs.declared.replay.ReplayEntry.{ReplayEntry}
+use Rattle.ov_model.specs.declared.replay.Verdict.{Verdict}
 use Rattle.ov_replay.specs.Window.{Stands}
 use Rattle.ov_replay.specs.declared.window.Window.{Window}
 
@@ -16,3 +17,16 @@ WindowStands (Some w) steps = Stands w (accepts_of steps) (moment_of steps)
 pub record IsShard (number : ℕ) (windows : BTreeMap ℕ Window) (entries : List ReplayEntry) : Type 0 where
   pub judged : ShardJudges number entries
   pub standing : (key : ℕ) → WindowStands (get nat_cmp windows key) (steps_of key entries)
+
+-- A step on a window: whatever list it stood for, the verdict is the rule's at the later moment, and the window stands for the list with what the verdict adds.
+abbrev pub WindowJudges : (was now : Window) → (id at : ℕ) → Verdict → (moment : ℕ) → Type 0
+WindowJudges was now id at verdict moment = (l : List Accepted) (m : ℕ) → Stands was l m
+    → (moment ≡ max m at) × (verdict ≡ verdict_of l id moment) × Stands now (l ++ accepted_by verdict id moment) moment
+
+-- A step of a key: the key's window, or a new one where it had none, made the step and lies in its place, and no other key's window changed.
+pub record Judges (before after : BTreeMap ℕ Window) (key id at : ℕ) (verdict : Verdict) (moment : ℕ) : Type 0 where
+  pub was : Window
+  pub now : Window
+  pub stood : (steps : List ReplayEntry) → WindowStands (get nat_cmp before key) steps → Stands was (accepts_of steps) (moment_of steps)
+  pub judged : WindowJudges was now id at verdict moment
+  pub updates : Updates nat_cmp before after key (Some now)

@@ -1,12 +1,12 @@
 //! One of the eight shards of the replay windows: those of the keys with one remainder modulo 8,
 //! and all steps that these keys made, in their order. Each key's window stands for its steps.
 
-ghost use Rattle.std.specs.Prelude.{◌≡◌, ◌%◌, ◌<◌, [], ◌∷◌, ◌++◌, IfOk, OnOk, OnErr, MatchOption};
-ghost use Rattle.std.specs.BTreeMap.{get};
+ghost use Rattle.std.specs.Prelude.{◌≡◌, ◌%◌, ◌<◌, [], ◌∷◌, ◌++◌, None, IfOk, IsOk, OnOk, OnErr};
+ghost use Rattle.std.specs.BTreeMap.{get, IsUnchanged};
 ghost use Rattle.std.specs.Ordering.{nat_cmp};
 ghost use Rattle.ov_model.specs.Limits.{shard_count};
 ghost use Rattle.ov_model.specs.Replay.{ShardJudges, judged};
-ghost use Rattle.ov_replay.specs.Window.{Stands};
+ghost use Rattle.ov_replay.specs.Shard.{Judges, WindowJudges};
 
 use crate::window::Window;
 use ov_base::{ListOf, Memory};
@@ -65,10 +65,7 @@ impl Shard {
         ensures err { OnErr result (self.new ≡ self.old) }
     {
         self.entries.reserve(1)?;
-        let mut window = window_of(&self.windows, key);
-        let verdict = window.step(id, at)?;
-        let moment = window.moment();
-        self.windows.insert(key, window)?;
+        let (verdict, moment) = judge(&mut self.windows, key, id, at)?;
         self.entries.push_reserved(ReplayEntry {
             place,
             key,
@@ -94,13 +91,46 @@ impl Shard {
     }
 }
 
-/// The window of a key, a new one where it has none.
-fn window_of(windows: &BTreeMap<u32, Window>, key: u32) -> Window
-    ensures { MatchOption (get nat_cmp windows.now key) (Stands result [] 0)
-        (λ window. result ≡ window) }
+/// Makes a step of the key `key` on the key's window, where it lies among the windows: a key without
+/// one gets one. It gives the verdict and the window's moment. After Memory the windows are as they
+/// were.
+fn judge(
+    windows: &mut BTreeMap<u32, Window>,
+    key: u32,
+    id: u32,
+    at: u32,
+) -> Result<(Verdict, u32), Memory>
+    ensures ok { IfOk result (λ made. Judges windows.old windows.new key id at made.0 made.1) }
+    ensures err { OnErr result (IsUnchanged windows.old windows.new) }
 {
-    match windows.get(&key) {
-        Some(window) => *window,
-        None => Window::new(),
+    match windows.get_mut(&key) {
+        Some(window) => step_on(window, id, at),
+        None => judge_first(windows, key, id, at),
     }
+}
+
+/// Makes the first step of the key `key`, on a new window.
+fn judge_first(
+    windows: &mut BTreeMap<u32, Window>,
+    key: u32,
+    id: u32,
+    at: u32,
+) -> Result<(Verdict, u32), Memory>
+    requires { get nat_cmp windows.old key ≡ None }
+    ensures ok { IfOk result (λ made. Judges windows.old windows.new key id at made.0 made.1) }
+    ensures err { OnErr result (IsUnchanged windows.old windows.new) }
+{
+    let mut window = Window::new();
+    let made = step_on(&mut window, id, at)?;
+    windows.insert(key, window)?;
+    Ok(made)
+}
+
+/// Makes a step on a window. It gives the verdict and the window's moment.
+fn step_on(window: &mut Window, id: u32, at: u32) -> Result<(Verdict, u32), Memory>
+    ensures ok { IfOk result (λ made. WindowJudges window.old window.new id at made.0 made.1) }
+    ensures memory { IsOk result }
+{
+    let verdict = window.step(id, at)?;
+    Ok((verdict, window.moment()))
 }
