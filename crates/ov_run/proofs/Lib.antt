@@ -4,3 +4,5 @@ pub mod Reporting
 pub mod Telling
 -- The words of a run.
 pub mod Words
+-- The text of a schedule and its parts between the commas.
+pub mod Schedules

@@ -1,17 +1,19 @@
 -- What the program promises of one run. A clause on the bytes that were read, or on the script that they
 -- are, holds where the source tells what it holds; one on the bytes that were written, where the sink does.
-use Rattle.std.specs.Prelude.{None, ℕ, ◌+◌, ◌<◌, ◌≡◌, ◌⊎◌, List, [], ◌∷◌, length, map, codes, Option, Some, String, string_bytes, ⊤}
+use Rattle.std.specs.Prelude.{None, ℕ, ◌+◌, ◌<◌, ◌≡◌, ◌⊎◌, List, [], length, Option, Some, ⊤}
 use Rattle.std.specs.List.{AllByRecursion}
-use Rattle.std.specs.declared.alloc.Global.{Global}
 use Rattle.std.specs.Io.KnownBytes.{Appends, IsAtEnd, Keeps}
 use Rattle.ov_base.specs.Outside.{Rose}
 use Rattle.ov_base.specs.Loops.{AppendsPart}
 use Rattle.ov_model.specs.declared.line.Script.{Script}
 use Rattle.ov_model.specs.declared.report.Report.{Report}
 use Rattle.ov_model.specs.declared.report.LaneLog.{LaneLog}
-use Rattle.ov_model.specs.Keys.{IdsCount, key_of}
-use Rattle.ov_model.specs.Removals.{AllReleased}
-use Rattle.ov_model.specs.Legal.{Legal, JournalRuns, LinesFollowPath, RemovalsAreNoted, ShardsJudge}
+use Rattle.ov_model.specs.Legal.{Legal}
+use Rattle.ov_core.specs.Sessions.{Serial, Scheduled}
+use Rattle.ov_run.specs.declared.plan.Mode.{Mode}
+use Rattle.ov_run.specs.declared.plan.Mode.TheVariants.{Trace, Steps}
+use Rattle.ov_run.specs.declared.plan.RunPlan.{RunPlan}
+use Rattle.ov_run.specs.Plan.{IsPlan}
 use Rattle.ov_script.specs.Reading.{Gave, IsScript, HasNoStop, Early, Stop, Event, bad_line, passed, whole_lines, ended_lines}
 use Rattle.ov_script.specs.declared.script.ReadStop.{ReadStop}
 use Rattle.ov_script.specs.declared.script.ReadStop.TheVariants as stop
@@ -21,9 +23,9 @@ use Rattle.ov_run.specs.declared.ended.Cause.{Cause}
 use Rattle.ov_run.specs.declared.ended.Cause.TheVariants as cause
 use Rattle.ov_run.specs.declared.ended.Ended.{Ended}
 
--- The words of a run: the one word `trace`.
-abbrev pub IsTrace : List (String Global) → Type 0
-IsTrace words = map string_bytes words ≡ codes "trace" ∷ []
+-- The number of lanes: a line's lane is below it, and a report has a log for each.
+abbrev pub lanes_read : ℕ
+lanes_read = 64
 
 -- How the events that stop a script are answered.
 abbrev pub cause_of : Event → Cause
@@ -51,12 +53,20 @@ IsStop cause.ReadFault = ⊤
 IsStop cause.WriteFault = ⊥
 IsStop cause.Memory = ⊥
 
--- The script of the bytes that were read, whose report this is. The first packet id of every key is 1.
-pub record Read (taken : List ℕ) (report : Report) : Type 0 where
-  pub no_stop : HasNoStop taken 1
-  pub script : Script
-  pub is_script : IsScript taken 1 script
-  pub legal : Legal script 1 report
+-- The report of a mode.
+abbrev pub RunsIn : Mode → List ℕ → Script → Report → Type 0
+RunsIn Trace schedule script report = Serial (λ a. a) script 1 report
+RunsIn Steps schedule script report = Scheduled (λ a. a) script 1 schedule report
+
+-- The report is that of the plan's mode: each line to its end in the script's order, or by the plan's
+-- schedule. The first packet id of every key is 1, and no line gives a route.
+abbrev pub Runs : RunPlan → Script → Report → Type 0
+Runs plan script report = RunsIn plan.mode plan.schedule script report
+
+-- The script of the bytes that were read.
+pub record Read (taken : List ℕ) (script : Script) : Type 0 where
+  pub no_stop : HasNoStop taken lanes_read
+  pub is_script : IsScript taken lanes_read script
 
 -- A lane's log of a run without links: each line has its answer, none came from a link, and no link refused
 -- a part.
@@ -65,22 +75,18 @@ pub record Answered (log : LaneLog) : Type 0 where
   pub recorded : log.recorded ≡ 0
   pub unsent : log.unsent ≡ []
 
--- A report: the journal is a run with its notes, each removal has its notes, no removed peer and no key
--- that was taken out is left, each replay step has the verdict that the earlier ones give it, the packet
--- ids of each key count up from 1, there is one lane, each of its lines has its answer, by its own steps
--- and replay steps, and where the source tells what it holds, it is at its end and the report is legal for
--- the script of what it gave.
-pub record Reported (before now : Option (List ℕ)) (report : Report) : Type 0 where
-  pub runs : JournalRuns report
-  pub removals : RemovalsAreNoted report
-  pub released : AllReleased report.journal
-  pub shards : ShardsJudge report
-  pub ids : IdsCount 1 report
-  pub one_lane : length report.lanes ≡ 1
+-- A report: it is that of the words' plan and of a script, legal for it, and has 64 lanes, each of whose lines
+-- has its answer. Where the source tells what it holds, it is at its end, and the script is that of what it gave.
+pub record Reported (words : List (List ℕ)) (before now : Option (List ℕ)) (report : Report) : Type 0 where
+  pub plan : RunPlan
+  pub is_plan : IsPlan words plan
+  pub script : Script
+  pub runs : Runs plan script report
+  pub legal : Legal script 1 report
+  pub lanes : length report.lanes ≡ lanes_read
   pub answered : AllByRecursion Answered report.lanes
-  pub follow : LinesFollowPath (key_of report.journal) (λ a. a) report
   pub ended : IsAtEnd now
-  pub read : (taken : List ℕ) → Gave before now taken → (now ≡ Some []) × Read taken report
+  pub read : (taken : List ℕ) → Gave before now taken → (now ≡ Some []) × Read taken script
 
 -- A report's text was written whole.
 pub record Wrote (before now : Option (List ℕ)) (report : Option Report) : Type 0 where
@@ -97,7 +103,7 @@ pub record WrotePart (before now : Option (List ℕ)) (report : Option Report) :
 -- Where a stop came from: the bytes that were read show it while the source may go on, or the source is
 -- at its end and all its bytes have it.
 abbrev pub ComesFrom : Option (List ℕ) → Option (List ℕ) → Event → Type 0
-ComesFrom before now event = (taken : List ℕ) → Gave before now taken → Early taken 1 event ⊎ ((now ≡ Some []) × Stop taken 1 event)
+ComesFrom before now event = (taken : List ℕ) → Gave before now taken → Early taken lanes_read event ⊎ ((now ≡ Some []) × Stop taken lanes_read event)
 
 -- What was written where memory was wanting: nothing before there was a report, and then a part of its
 -- text, from the front and not to the end, which is nothing of a text that fills no page.

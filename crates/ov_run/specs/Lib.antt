@@ -1,3 +1,4 @@
 pub mod Status
 pub mod Clauses
 pub mod Told
+pub mod Plan

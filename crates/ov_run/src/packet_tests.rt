@@ -13,24 +13,24 @@ use std::process::Abort;
 use std::test::Fail;
 
 /// A peer with id 5.
-const PEER5: &str =
+pub const PEER5: &str =
     r#"{"at":0,"do":"peer-new","lane":0,"peer":{"id":5,"remote-ipv4":"192.0.2.1","remote-port":1194,"vpn-ipv4":"10.8.0.5"}}"#;
 
 /// A key of the peer in its primary slot, whose two directions are alike, so that the peer can receive what it
 /// sent.
-const KEY5: &str =
+pub const KEY5: &str =
     r#"{"at":0,"do":"key-new","keyconf":{"cipher-alg":"aes-gcm","decrypt-dir":{"cipher-key":"000102030405060708090a0b0c0d0e0f","nonce-tail":"0001020304050607"},"encrypt-dir":{"cipher-key":"000102030405060708090a0b0c0d0e0f","nonce-tail":"0001020304050607"},"key-id":2,"peer-id":5,"slot":"primary"},"lane":0}"#;
 
 /// An inner packet for the peer.
-const SEND5: &str =
+pub const SEND5: &str =
     r#"{"at":0,"do":"tx","lane":0,"packet":"4500001400000000401100000a0800050a080005"}"#;
 
 /// The datagram that the packet becomes first under the key, received.
-const RECEIVE5: &str =
+pub const RECEIVE5: &str =
     r#"{"at":0,"datagram":"4a0000050000000160510e1c04ad719a851c1bc16f2d39abdf16c4d59bf4324469214f1f674636283bf64896","do":"rx","from":{"addr":"192.0.2.1","port":1194},"lane":0}"#;
 
 /// The peer is asked for.
-const GET5: &str = r#"{"at":0,"do":"peer-get","lane":0,"peer":{"id":5}}"#;
+pub const GET5: &str = r#"{"at":0,"do":"peer-get","lane":0,"peer":{"id":5}}"#;
 
 /// The peer is removed.
 const DELETE5: &str = r#"{"at":0,"do":"peer-del","lane":0,"peer":{"id":5}}"#;
@@ -44,18 +44,18 @@ const WRONG5: &str =
     r#"{"at":0,"datagram":"4a0000050000000160510e1c04ad719a851c1bc16f2d39aadf16c4d59bf4324469214f1f674636283bf64896","do":"rx","from":{"addr":"192.0.2.1","port":1194},"lane":0}"#;
 
 /// The entries and the answers of the first two lines of most scripts.
-const PEER_MADE: &str =
+pub const PEER_MADE: &str =
     r#"{"at":0,"call":"peer-new","journal":0,"lane":0,"line":0,"reply":{"serial":0}}"#;
 
-const KEY_MADE: &str =
+pub const KEY_MADE: &str =
     r#"{"at":0,"call":"key-new","journal":1,"lane":0,"line":1,"reply":{"serial":0}}"#;
 
-const PEER_ANSWER: &str = r#"{"answer":{"serial":0},"lane":0,"line":0}"#;
+pub const PEER_ANSWER: &str = r#"{"answer":{"serial":0},"lane":0,"line":0}"#;
 
-const KEY_ANSWER: &str = r#"{"answer":{"serial":0},"lane":0,"line":1}"#;
+pub const KEY_ANSWER: &str = r#"{"answer":{"serial":0},"lane":0,"line":1}"#;
 
 /// These lines, each with its end.
-fn text(alloc: Global, lines: &[&str]) -> Result<Vec<u8>, Memory> {
+pub fn text(alloc: Global, lines: &[&str]) -> Result<Vec<u8>, Memory> {
     let mut bytes = Vec::new(alloc);
     for line in lines {
         bytes.extend_from_slice(line.as_bytes())?;
@@ -64,14 +64,25 @@ fn text(alloc: Global, lines: &[&str]) -> Result<Vec<u8>, Memory> {
     Ok(bytes)
 }
 
-/// Runs a script of these lines; the whole text that is written must be these lines of a report.
-fn gives(rt: &impl Abort, alloc: Global, script: &[&str], report: &[&str]) -> Result<(), Fail> {
+/// Runs a script of these lines with these words; the whole text that is written must be these lines of a report.
+pub fn written(
+    rt: &impl Abort,
+    alloc: Global,
+    words: &[&str],
+    script: &[&str],
+    report: &[&str],
+) -> Result<(), Fail> {
     let script = text(alloc, script)?;
     let report = text(alloc, report)?;
-    let (status, written) = run(alloc, "trace", script.as_slice(), &[], &[])?;
+    let (status, written) = run(alloc, words, script.as_slice(), &[], &[])?;
     assert_eq!(rt; status, 0);
     assert_eq!(rt; written.as_slice(), report.as_slice());
     Ok(())
+}
+
+/// Runs each line of a script to its end; the whole text that is written must be these lines of a report.
+fn gives(rt: &impl Abort, alloc: Global, script: &[&str], report: &[&str]) -> Result<(), Fail> {
+    written(rt, alloc, &["trace"], script, report)
 }
 
 #[test]
@@ -283,7 +294,7 @@ fn sixty_packets_are_sealed_with_ids_from_1_to_60(rt: HostRuntime) -> Result<(),
     for _number in 0..60_u32 {
         script.extend_from_slice(line.as_slice())?;
     }
-    let (status, written) = run(alloc, "trace", script.as_slice(), &[], &[])?;
+    let (status, written) = run(alloc, &["trace"], script.as_slice(), &[], &[])?;
     assert_eq!(rt; status, 0);
     let end = text(
         alloc,
@@ -307,7 +318,7 @@ fn a_bad_line_is_told_by_its_number_and_runs_nothing(rt: HostRuntime) -> Result<
         r#"{"at":0,"do":"tx","lane":0}"#,
         r#"{"at":0,"do":"tx","lane":0,"packet":"450"}"#,
         r#"{"at":0,"do":"tx","lane":0,"packet":"4g"}"#,
-        r#"{"at":0,"do":"tx","lane":1,"packet":"45"}"#,
+        r#"{"at":0,"do":"tx","lane":64,"packet":"45"}"#,
         r#"{"at":0,"datagram":"4a","do":"rx","lane":0}"#,
         r#"{"at":0,"datagram":"4a","do":"rx","from":{"addr":"192.0.2.1"},"lane":0}"#,
         r#"{"at":0,"datagram":"4a","do":"rx","from":{"addr":"192.0.2.1","port":65536},"lane":0}"#,
@@ -315,7 +326,7 @@ fn a_bad_line_is_told_by_its_number_and_runs_nothing(rt: HostRuntime) -> Result<
     ] {
         let script = text(alloc, &[PEER5, KEY5, bad, SEND5])?;
         assert_eq!(rt; cause_of(alloc, script.as_slice())?, Cause::BadLine(3));
-        let (status, written) = run(alloc, "trace", script.as_slice(), &[], &[])?;
+        let (status, written) = run(alloc, &["trace"], script.as_slice(), &[], &[])?;
         assert_eq!(rt; status, 2);
         assert!(rt; written.is_empty());
     }

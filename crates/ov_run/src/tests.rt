@@ -1,6 +1,8 @@
 //! Whole runs over sources and sinks in memory, in pieces of 16 bytes.
 
 ghost use Rattle.std.specs.Prelude.{IfSome};
+ghost use Rattle.ov_model.specs.declared.line.Script.{Script};
+ghost use Rattle.ov_model.specs.Legal.{Legal};
 ghost use Rattle.ov_run.specs.Clauses.{Read};
 
 use crate::ended::{Cause, Ended};
@@ -21,16 +23,18 @@ fn calls(alloc: Global, numbers: &[u64]) -> Result<ListOf<u64>, Memory> {
     Ok(ListOf::of_vec(numbers))
 }
 
-/// How a run on `text` ended and what it wrote, with one word and where these calls fail.
+/// How a run on `text` ended and what it wrote, with these words and where these calls fail.
 fn ran(
     alloc: Global,
-    word: &str,
+    texts: &[&str],
     text: &[u8],
     reads: &[u64],
     writes: &[u64],
 ) -> Result<(Ended, Octets), Memory> {
     let mut words = Vec::new(alloc);
-    words.push(String::from_str(alloc, word)?)?;
+    for text in texts {
+        words.push(String::from_str(alloc, *text)?)?;
+    }
     let bytes = Octets::of(alloc, text)?;
     let mut source = MemorySource::new(bytes, 16, calls(alloc, reads)?);
     let mut sink = MemorySink::new(alloc, 16, calls(alloc, writes)?);
@@ -39,27 +43,27 @@ fn ran(
     Ok((ended, written))
 }
 
-/// The status and the written text of a run on `text`, with one word and where these calls fail.
+/// The status and the written text of a run on `text`, with these words and where these calls fail.
 pub fn run(
     alloc: Global,
-    word: &str,
+    words: &[&str],
     text: &[u8],
     reads: &[u64],
     writes: &[u64],
 ) -> Result<(u8, Octets), Memory> {
-    let (ended, written) = ran(alloc, word, text, reads, writes)?;
+    let (ended, written) = ran(alloc, words, text, reads, writes)?;
     Ok((ended.status(), written))
 }
 
 /// Why a run on `text` ended.
 pub fn cause_of(alloc: Global, text: &[u8]) -> Result<Cause, Memory> {
-    let (ended, _) = ran(alloc, "trace", text, &[], &[])?;
+    let (ended, _) = ran(alloc, &["trace"], text, &[], &[])?;
     Ok(ended.cause)
 }
 
 #[test]
 fn an_empty_script_has_a_summary_alone(rt: HostRuntime) -> Result<(), Fail> {
-    let (status, written) = run(rt.alloc(), "trace", b"", &[], &[])?;
+    let (status, written) = run(rt.alloc(), &["trace"], b"", &[], &[])?;
     assert_eq!(rt; status, 0);
     let summary =
         br#"{"summary":{"accepted":0,"answers":0,"bad-tag":0,"delivered":0,"journal":0,"keys":0,"keys-differ":true,"notes":0,"peers":0,"refused":0,"released":0,"sealed":0}}
@@ -75,7 +79,7 @@ fn a_taken_vpn_address_is_refused(rt: HostRuntime) -> Result<(), Fail> {
 {"at":0,"do":"peer-new","lane":0,"peer":{"id":6,"remote-ipv4":"192.0.2.2","remote-port":1194,"vpn-ipv4":"10.8.0.5"}}
 {"at":0,"do":"peer-get","lane":0,"peer":{"id":6}}
 "#;
-    let (status, written) = run(rt.alloc(), "trace", script, &[], &[])?;
+    let (status, written) = run(rt.alloc(), &["trace"], script, &[], &[])?;
     assert_eq!(rt; status, 0);
     let report = br#"{"at":0,"call":"peer-new","journal":0,"lane":0,"line":0,"reply":{"serial":0}}
 {"at":0,"call":"peer-new","journal":1,"lane":0,"line":1,"reply":{"error":17}}
@@ -94,10 +98,10 @@ fn a_bad_line_or_another_word_runs_nothing(rt: HostRuntime) -> Result<(), Fail> 
     for (word, text, wanted) in [
         ("trace", b"{\n".as_slice(), 2),
         ("trace", b"\n".as_slice(), 2),
-        ("steps", PEER5.as_bytes(), 1),
+        ("run", PEER5.as_bytes(), 1),
         ("", PEER5.as_bytes(), 1),
     ] {
-        let (status, written) = run(rt.alloc(), word, text, &[], &[])?;
+        let (status, written) = run(rt.alloc(), &[word], text, &[], &[])?;
         assert_eq!(rt; status, wanted);
         assert!(rt; written.is_empty());
     }
@@ -106,24 +110,24 @@ fn a_bad_line_or_another_word_runs_nothing(rt: HostRuntime) -> Result<(), Fail> 
 
 #[test]
 fn a_fault_at_any_call_is_told_and_changes_no_report(rt: HostRuntime) -> Result<(), Fail> {
-    let (status, whole) = run(rt.alloc(), "trace", PEER5.as_bytes(), &[], &[])?;
+    let (status, whole) = run(rt.alloc(), &["trace"], PEER5.as_bytes(), &[], &[])?;
     assert_eq!(rt; status, 0);
     for number in 0..24_u64 {
-        let (status, written) = run(rt.alloc(), "trace", PEER5.as_bytes(), &[number], &[])?;
+        let (status, written) = run(rt.alloc(), &["trace"], PEER5.as_bytes(), &[number], &[])?;
         if status == 4 {
             assert!(rt; written.is_empty());
         } else {
             assert_eq!(rt; status, 0);
             assert!(rt; written == whole);
         }
-        let (status, written) = run(rt.alloc(), "trace", PEER5.as_bytes(), &[], &[number])?;
+        let (status, written) = run(rt.alloc(), &["trace"], PEER5.as_bytes(), &[], &[number])?;
         assert!(rt; status == 5 || status == 0);
         assert_eq!(rt; status == 0, written.len() == whole.len());
         assert!(rt; whole.as_slice().starts_with(written.as_slice()));
     }
-    let (status, _) = run(rt.alloc(), "trace", PEER5.as_bytes(), &[0], &[])?;
+    let (status, _) = run(rt.alloc(), &["trace"], PEER5.as_bytes(), &[0], &[])?;
     assert_eq!(rt; status, 4);
-    let (status, _) = run(rt.alloc(), "trace", PEER5.as_bytes(), &[], &[0])?;
+    let (status, _) = run(rt.alloc(), &["trace"], PEER5.as_bytes(), &[], &[0])?;
     assert_eq!(rt; status, 5);
     Ok(())
 }
@@ -131,7 +135,8 @@ fn a_fault_at_any_call_is_told_and_changes_no_report(rt: HostRuntime) -> Result<
 /// A run on a text in memory, in pieces of 16 bytes. Its report is legal for the text's script: what the source
 /// gave is known from what it held, and is no premise.
 fn traced<K: Sink>(alloc: Global, words: &[String], text: Octets, sink: &mut K) -> Ended
-    ensures { IfSome result.report (Read text) }
+    ensures { IfSome result.report (λ report.
+        (script : Script) × Read text script × Legal script 1 report) }
 {
     let mut source = MemorySource::new(text, 16, ListOf::new(alloc));
     run_serial(alloc, words, &mut source, sink)

@@ -1,6 +1,0 @@
-use Rattle.std.proofs.Common.{◌≡◌}
-use Rattle.ov_serial.specs.Desks.{shards_to}
-use Rattle.ov_serial.proofs.desk.new_shards.Given as goal
-
-abbrev pub invariant-loop-number : goal.invariant-loop-number
-invariant-loop-number l = l.shards.items ≡ shards_to l.number

@@ -1,4 +1,0 @@
-pub mod Pasts
-pub mod Desks
-pub mod Lines
-pub mod Running
