@@ -2,3 +2,13 @@
 pub mod Seats
 -- What a lane's own steps say of it after an event of any lane.
 pub mod Moving
+-- A script that runs stays sound with each event of a lane and with each answer.
+pub mod Turning
+-- An event that a line asked for is the event of the definition.
+pub mod Linking
+-- Before any turn a script is sound.
+pub mod Beginning
+-- A script whose lanes are done has a legal report.
+pub mod Ending
+-- A sound script whose lanes are done gives the parts of a legal report.
+pub mod Reporting
