@@ -12,3 +12,9 @@ pub mod Beginning
 pub mod Ending
 -- A sound script whose lanes are done gives the parts of a legal report.
 pub mod Reporting
+-- What is owed, counted: of one serial of a peer or of a key, at the width of numbers.
+pub mod Owing
+-- What stands once, and what a look-up finds is live.
+pub mod There
+-- What is owed after each kind of event.
+pub mod Balance
