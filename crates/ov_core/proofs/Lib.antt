@@ -18,3 +18,5 @@ pub mod Owing
 pub mod There
 -- What is owed after each kind of event.
 pub mod Balance
+-- What every event of every lane keeps true of the world.
+pub mod Keeping
