@@ -4,3 +4,5 @@ pub mod Owing
 pub mod There
 -- What is owed after each kind of event.
 pub mod Balance
+-- What is held stands in the table, whatever step of the table is made.
+pub mod Staying
