@@ -87,9 +87,9 @@ ReleasesFirst (act.KeyReleased k) os = first_owed os ≡ Some (owed.Key k)
 ReleasesFirst _ os = ⊤
 
 -- A release takes from what is owed what it lets go.
-record LetsGo (a : Act) (os : List Owed) : Type 0 where
-  peers : (p : ℕ) → total (is_peer p) (let_go a os) + times p (released_by a) ≡ total (is_peer p) os
-  keys : (k : ℕ) → total (is_key k) (let_go a os) + times k (key_released_by a) ≡ total (is_key k) os
+pub record LetsGo (a : Act) (os : List Owed) : Type 0 where
+  pub peers : (p : ℕ) → total (is_peer p) (let_go a os) + times p (released_by a) ≡ total (is_peer p) os
+  pub keys : (k : ℕ) → total (is_key k) (let_go a os) + times k (key_released_by a) ≡ total (is_key k) os
 
 first_peer : (serial p : ℕ) → times p (serial ∷ []) ≡ is_peer p (owed.Peer serial)
 first_peer serial p = elim (cases_eq serial p) [ inl same ↦ rw (eq-eqb serial p same) refl | inr other ↦ rw (ne_eqb serial p other) refl ]
@@ -112,7 +112,7 @@ lets_none a os same no_peer no_key = record {
   keys = λ k. rw (same, no_key) (omega arith);
 }
 
-lets_go_first : (a : Act) (os : List Owed) → ReleasesFirst a os → LetsGo a os
+pub lets_go_first : (a : Act) (os : List Owed) → ReleasesFirst a os → LetsGo a os
 lets_go_first (act.Do c) os first = lets_none (act.Do c) os refl refl refl
 lets_go_first (act.TxLook a) os first = lets_none (act.TxLook a) os refl refl refl
 lets_go_first (act.RxLook id key_id from) os first = lets_none (act.RxLook id key_id from) os refl refl refl

@@ -20,3 +20,5 @@ pub mod There
 pub mod Balance
 -- What every event of every lane keeps true of the world.
 pub mod Keeping
+-- What is held stands in the table, whatever step of the table is made.
+pub mod Staying
