@@ -1,5 +1,5 @@
 -- What is held stands in the table, whatever step of the table is made: nothing that is held is let go.
-use Rattle.std.proofs.Common.{ℕ, ◌≡◌, ◌+◌, ◌<◌, ◌≤◌, List, [], ◌∷◌, refl, sym, subst, true, arith, if◌then◌else◌, ◌==◌, inl, inr, ◌⊎◌}
+use Rattle.std.proofs.Common.{ℕ, ◌≡◌, ◌+◌, ◌≤◌, [], ◌∷◌, refl, sym, subst, true, arith, inl, inr}
 use Rattle.std.specs.Prelude.{Some, slice_get, slice_set, max}
 use Rattle.std.proofs.lemmas.Bool.{eq-eqb}
 use Rattle.std.proofs.lemmas.Bool.Decides.{nat_tests}
@@ -9,12 +9,10 @@ use Rattle.ov_model.specs.declared.act.Act.{Act}
 use Rattle.ov_model.specs.declared.act.Act.TheVariants as act
 use Rattle.ov_model.specs.declared.act.Call.{Call}
 use Rattle.ov_model.specs.declared.entry.Entry.{Entry}
-use Rattle.ov_model.specs.declared.reply.HoldView.{HoldView}
 use Rattle.ov_model.specs.declared.reply.Reply.{Reply}
 use Rattle.ov_model.specs.declared.reply.Reply.TheVariants as reply
 use Rattle.ov_model.specs.Tables.{Table, serials_of, key_serials}
 use Rattle.ov_model.specs.Step.{act_step, step, may_act, May}
-use Rattle.ov_model.specs.Lifetime.{peers_in_reply, keys_in_reply}
 use Rattle.ov_model.specs.Removals.{times, released_by, key_released_by}
 use Rattle.ov_model.proofs.Tallies.{peer_stands, key_stands, Shows, reply_stands, Moves, peer_tally, key_tally, peer_moves, key_moves}
 use Rattle.ov_path.specs.Desks.{Holding, NoHold, Both, PeerLeft, look_holds, held_after, peer_left}
@@ -68,9 +66,9 @@ spares_release w i s a owes at first j r other =
     let lets : LetsGo a s.owing = lets_go_first a s.owing first in
     record {
       peers = λ p held. spares_one (peer_holds p w.seats) (peer_owes p w.seats) (times p (serials_of w.table.now.dying)) (times p (released_by a)) (total (is_peer p) (let_go a s.owing)) (total (is_peer p) s.owing) (holds_peer p r.hold)
-        (owes.peers p) (lets.peers p) (part_of_total (λ x. total (is_peer p) x.owing) w.seats i s at) (part_of_total (λ x. holds_peer p x.hold) w.seats j r other) held;
+          (owes.peers p) (lets.peers p) (part_of_total (λ x. total (is_peer p) x.owing) w.seats i s at) (part_of_total (λ x. holds_peer p x.hold) w.seats j r other) held;
       keys = λ k held. spares_one (key_holds k w.seats) (key_owes k w.seats) (times k (key_serials w.table.now.retired)) (times k (key_released_by a)) (total (is_key k) (let_go a s.owing)) (total (is_key k) s.owing) (holds_key k r.hold)
-        (owes.keys k) (lets.keys k) (part_of_total (λ x. total (is_key k) x.owing) w.seats i s at) (part_of_total (λ x. holds_key k x.hold) w.seats j r other) held;
+          (owes.keys k) (lets.keys k) (part_of_total (λ x. total (is_key k) x.owing) w.seats i s at) (part_of_total (λ x. holds_key k x.hold) w.seats j r other) held;
     }
 
 -- What any lane holds stands after a step of lane i.
