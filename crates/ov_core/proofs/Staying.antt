@@ -68,9 +68,9 @@ spares_release w i s a owes at first j r other =
     let lets : LetsGo a s.owing = lets_go_first a s.owing first in
     record {
       peers = λ p held. spares_one (peer_holds p w.seats) (peer_owes p w.seats) (times p (serials_of w.table.now.dying)) (times p (released_by a)) (total (is_peer p) (let_go a s.owing)) (total (is_peer p) s.owing) (holds_peer p r.hold)
-        (owes.peers p) (lets.peers p) (part_of_total (λ x. total (is_peer p) x.owing) w.seats i s at) (part_of_total (λ x. holds_peer p x.hold) w.seats j r other) held;
+          (owes.peers p) (lets.peers p) (part_of_total (λ x. total (is_peer p) x.owing) w.seats i s at) (part_of_total (λ x. holds_peer p x.hold) w.seats j r other) held;
       keys = λ k held. spares_one (key_holds k w.seats) (key_owes k w.seats) (times k (key_serials w.table.now.retired)) (times k (key_released_by a)) (total (is_key k) (let_go a s.owing)) (total (is_key k) s.owing) (holds_key k r.hold)
-        (owes.keys k) (lets.keys k) (part_of_total (λ x. total (is_key k) x.owing) w.seats i s at) (part_of_total (λ x. holds_key k x.hold) w.seats j r other) held;
+          (owes.keys k) (lets.keys k) (part_of_total (λ x. total (is_key k) x.owing) w.seats i s at) (part_of_total (λ x. holds_key k x.hold) w.seats j r other) held;
     }
 
 -- What any lane holds stands after a step of lane i.
