@@ -1,9 +1,25 @@
+-- A list of seats in which one changed.
+pub mod Seats
+-- What a lane's own steps say of it after an event of any lane.
+pub mod Moving
+-- A script that runs stays sound with each event of a lane and with each answer.
+pub mod Turning
+-- An event that a line asked for is the event of the definition.
+pub mod Linking
+-- Before any turn a script is sound.
+pub mod Beginning
+-- A script whose lanes are done has a legal report.
+pub mod Ending
+-- A sound script whose lanes are done gives the parts of a legal report.
+pub mod Reporting
 -- What is owed, counted: of one serial of a peer or of a key, at the width of numbers.
 pub mod Owing
 -- What stands once, and what a look-up finds is live.
 pub mod There
 -- What is owed after each kind of event.
 pub mod Balance
+-- What every event of every lane keeps true of the world.
+pub mod Keeping
 -- What is held stands in the table, whatever step of the table is made.
 pub mod Staying
 -- What each key's counter gives next, after a step of the table and after a draw.
