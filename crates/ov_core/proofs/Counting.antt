@@ -1,32 +1,27 @@
 -- The packet ids of each key, over all lanes: each kind of event and an answer keep the count, and it ends as
 -- the report's.
-use Rattle.std.proofs.Common.{ℕ, ◌≡◌, ◌≢◌, ◌+◌, ◌<◌, ◌≤◌, zero, suc, List, [], ◌∷◌, ◌++◌, length, refl, sym, ap, ◌∙◌, subst, Bool, true, false, arith, if◌then◌else◌, ◌==◌, inl, inr, ◌⊎◌, append-nil, append_assoc, length-append}
-use Rattle.std.specs.Prelude.{map, filter, get_or, replicate, slice_get, slice_set, Some}
-use Rattle.std.specs.List.{AllByRecursion, AllPairs, list_any, range_with_len}
+use Rattle.std.proofs.Common.{ℕ, ◌≡◌, ◌≢◌, ◌+◌, ◌<◌, ◌≤◌, zero, suc, List, [], ◌∷◌, ◌++◌, length, refl, sym, ap, ◌∙◌, subst, arith, inl, inr, append-nil, append_assoc, length-append}
+use Rattle.std.specs.Prelude.{get_or, slice_get, slice_set, Some}
+use Rattle.std.specs.List.{AllByRecursion}
 use Rattle.std.proofs.lemmas.Bool.{cases_eq, eq-eqb, ne_eqb}
 use Rattle.std.proofs.lemmas.Bool.Decides.{nat_tests}
 use Rattle.std.proofs.lemmas.List.Quantifiers.{all_pairs_push}
 use Rattle.ov_base.specs.Sums.{total, between}
-use Rattle.ov_base.proofs.Sums.{between_more}
 use Rattle.ov_model.specs.declared.place.Place.{Place}
 use Rattle.ov_model.specs.declared.act.Call.{Call}
 use Rattle.ov_model.specs.declared.answer.Answer.{Answer}
-use Rattle.ov_model.specs.declared.draw.Drawn.{Drawn}
 use Rattle.ov_model.specs.declared.draw.Drawn.TheVariants as drawn
-use Rattle.ov_model.specs.declared.line.Line.{Line}
-use Rattle.ov_model.specs.declared.line.Script.{Script}
-use Rattle.ov_model.specs.declared.report.LaneLog.{LaneLog}
 use Rattle.ov_model.specs.Step.{step}
-use Rattle.ov_model.specs.Events.{DrawnId, Event, Stepped, Judged, Drew, GaveKey, GavePeer, draws_in, drawn_id, judgement_of}
-use Rattle.ov_model.specs.Keys.{sealed_ids, ids_under, ids_of, ids_in, spends, KeyCounts, IdsCount}
-use Rattle.ov_model.specs.Legal.{lane_lines}
+use Rattle.ov_model.specs.Events.{Event, Stepped, Judged, Drew, GaveKey, GavePeer, draws_in, judgement_of}
+use Rattle.ov_model.specs.Keys.{sealed_ids, ids_under, ids_of}
 use Rattle.ov_model.specs.Removals.{times}
 use Rattle.ov_model.proofs.Counting.{draws_in-append, ids_under-append, ids_of-push}
 use Rattle.ov_model.proofs.Times.{times-append}
-use Rattle.ov_core.specs.Worlds.{World, Seat, lane_count, no_line, next_of, new_world, seat_stepped, after_step, judged_next, after_replay, drawn_of, next_after, after_draw, key_given, peer_given, after_key, after_peer}
-use Rattle.ov_core.specs.Sessions.{Lane, Session, begun, new_lanes, answered, log_of, report_of}
+use Rattle.ov_core.specs.Worlds.{World, Seat, no_line, next_of, seat_stepped, after_step, judged_next, after_replay, drawn_of, next_after, after_draw, key_given, peer_given, after_key, after_peer}
+use Rattle.ov_core.specs.Sessions.{Lane, Session, answered}
 use Rattle.ov_core.specs.Sounds.{ids_drawn, over_lanes, RiseBelow, Counts}
-use Rattle.ov_core.proofs.Owing.{total_changed_at, changed_here, changed_other}
+use Rattle.ov_core.proofs.Owing.{total_changed_at}
+use Rattle.ov_core.proofs.Seats.{set_case, set_there}
 use Rattle.ov_core.proofs.Nexts.{next_stepped, next_drawn, next_others, drawn_cases}
 
 -- ---- measures that add up
@@ -81,11 +76,9 @@ seats_same f key seats i s r at same =
 
 -- The ids of a lane, where its seat may be the changed one.
 drawn_same : (key : ℕ) (seats : List Seat) (i : ℕ) (s r : Seat) → slice_get seats i ≡ Some s → ids_under key (draws_in r.events) ≡ ids_under key (draws_in s.events) → (j : ℕ) (lane : Lane) (x : Seat) → slice_get (slice_set seats i r) j ≡ Some x → (y : Seat) × (slice_get seats j ≡ Some y) × (ids_drawn key lane x ≡ ids_drawn key lane y)
-drawn_same key seats i s r at same j lane x now_at = elim (cases_eq j i) [
-  | inl here ↦
-      let its : x ≡ r = changed_here seats i r x (rw here at now_at) in
-      (s, rw here at, rw its (ap (λ ns. ids_of lane.answers key ++ ns) same))
-  | inr other ↦ (x, sym (changed_other seats i j r other) ∙ now_at, refl)
+drawn_same key seats i s r at same j lane x now_at = elim (set_case seats i j r x now_at) [
+  | inl here ↦ (s, rw here.0 at, rw here.1 (ap (λ ns. ids_of lane.answers key ++ ns) same))
+  | inr other ↦ (x, other.1, refl)
 ]
 
 pub counts_quiet : (s : Session) (v : World) (i : ℕ) (seat r : Seat) (key : ℕ) → slice_get s.world.seats i ≡ Some seat → v.seats ≡ slice_set s.world.seats i r → ids_under key (draws_in r.events) ≡ ids_under key (draws_in seat.events) → v.first ≡ s.world.first → next_of v key ≡ next_of s.world key → Counts s key → Counts (record s { world = v }) key
@@ -167,13 +160,12 @@ counts_more s v i seat r key at seats more first next counts =
       count = (let whole : v.first + over_lanes length key after ≡ next_of v key = omega arith in whole);
       rise = λ j lane x lane_at seat_at.
           let now_at : slice_get (slice_set s.world.seats i r) j ≡ Some x = subst (λ xs. slice_get xs j ≡ Some x) seats seat_at in
-          subst (λ b. RiseBelow b (ids_drawn key lane x)) (sym next) (elim (cases_eq j i) [
+          subst (λ b. RiseBelow b (ids_drawn key lane x)) (sym next) (elim (set_case s.world.seats i j r x now_at) [
             | inl here ↦
-                let its : x ≡ r = changed_here s.world.seats i r x (rw here at now_at) in
-                let was : RiseBelow n (ids_drawn key lane seat) = counts.rise j lane seat lane_at (rw here at) in
-                let grown : ids_drawn key lane x ≡ ids_drawn key lane seat ++ n ∷ [] = rw its (ap (λ ns. ids_of lane.answers key ++ ns) more ∙ sym (append_assoc (ids_of lane.answers key) (ids_under key (draws_in seat.events)) (n ∷ []))) in
+                let was : RiseBelow n (ids_drawn key lane seat) = counts.rise j lane seat lane_at (rw here.0 at) in
+                let grown : ids_drawn key lane x ≡ ids_drawn key lane seat ++ n ∷ [] = rw here.1 (ap (λ ns. ids_of lane.answers key ++ ns) more ∙ sym (append_assoc (ids_of lane.answers key) (ids_under key (draws_in seat.events)) (n ∷ []))) in
                 subst (RiseBelow (n + 1)) (sym grown) (rise_more n (ids_drawn key lane seat) was)
-            | inr other ↦ rise_weaker n (n + 1) (ids_drawn key lane x) (omega arith) (counts.rise j lane x lane_at (sym (changed_other s.world.seats i j r other) ∙ now_at))
+            | inr other ↦ rise_weaker n (n + 1) (ids_drawn key lane x) (omega arith) (counts.rise j lane x lane_at other.1)
           ]);
     }
 
@@ -204,3 +196,37 @@ counts_draw s i seat drew key at below counts =
           ])
           counts
     ]
+
+-- ---- an answer
+
+-- What was drawn for a line is what its answer sealed.
+over_answered : (f : List ℕ → ℕ) → AddsUp f → (s : Session) (w : World) (i : ℕ) (lane : Lane) (seat : Seat) (a : Answer) (key : ℕ) → slice_get s.lanes i ≡ Some lane → slice_get w.seats i ≡ Some seat → draws_in seat.events ≡ sealed_ids a → over_lanes f key (answered s w i lane a) ≡ over_lanes f key (record s { world = w })
+over_answered f adds s w i lane seat a key lane_at seat_at sealed =
+    let more : Lane = record lane { answers = lane.answers ++ a ∷ [] } in
+    let by_lane : Lane → ℕ = λ l. f (ids_of l.answers key) in
+    let by_seat : Seat → ℕ = λ x. f (ids_under key (draws_in x.events)) in
+    let lanes : total by_lane (slice_set s.lanes i more) + by_lane lane ≡ total by_lane s.lanes + by_lane more = total_changed_at by_lane s.lanes i lane more lane_at in
+    let seats : total by_seat (slice_set w.seats i no_line) + by_seat seat ≡ total by_seat w.seats + by_seat no_line = total_changed_at by_seat w.seats i seat no_line seat_at in
+    let grown : by_lane more ≡ by_lane lane + f (ids_under key (sealed_ids a)) = ap f (ids_of-push lane.answers a key) ∙ adds.append (ids_of lane.answers key) (ids_under key (sealed_ids a)) in
+    let drawn : by_seat seat ≡ f (ids_under key (sealed_ids a)) = ap (λ ds. f (ids_under key ds)) sealed in
+    let none : by_seat no_line ≡ 0 = adds_none f adds in
+    omega arith
+
+-- Lane i's line is answered: what it sealed it drew.
+pub counts_answered : (s : Session) (w : World) (i : ℕ) (lane : Lane) (seat : Seat) (a : Answer) (key : ℕ) → slice_get s.lanes i ≡ Some lane → slice_get w.seats i ≡ Some seat → draws_in seat.events ≡ sealed_ids a → Counts (record s { world = w }) key → Counts (answered s w i lane a) key
+counts_answered s w i lane seat a key lane_at seat_at sealed counts =
+    let more : Lane = record lane { answers = lane.answers ++ a ∷ [] } in
+    let same : ids_drawn key more no_line ≡ ids_drawn key lane seat = append-nil (ids_of more.answers key) ∙ ids_of-push lane.answers a key ∙ ap (λ ds. ids_of lane.answers key ++ ids_under key ds) (sym sealed) in
+    record {
+      once = λ n. over_answered (times n) (times_adds n) s w i lane seat a key lane_at seat_at sealed ∙ counts.once n;
+      count = ap (λ n. w.first + n) (over_answered length length_adds s w i lane seat a key lane_at seat_at sealed) ∙ counts.count;
+      rise = λ j l x l_at x_at. elim (set_case w.seats i j no_line x x_at) [
+        | inl here ↦ elim (set_case s.lanes i j more l l_at) [
+          | inl own ↦
+              let was : RiseBelow (next_of w key) (ids_drawn key lane seat) = counts.rise i lane seat lane_at seat_at in
+              subst (RiseBelow (next_of w key)) (sym (rw (here.1, own.1) same)) was
+          | inr other ↦ absurd (other.0 here.0)
+        ]
+        | inr there ↦ counts.rise j l x (sym (set_there s.lanes i j more there.0) ∙ l_at) there.1
+      ];
+    }

@@ -1,5 +1,5 @@
 -- What is held stands in the table, whatever step of the table is made: nothing that is held is let go.
-use Rattle.std.proofs.Common.{ℕ, ◌≡◌, ◌+◌, ◌<◌, ◌≤◌, List, [], ◌∷◌, refl, sym, subst, true, arith, if◌then◌else◌, ◌==◌, inl, inr, ◌⊎◌}
+use Rattle.std.proofs.Common.{ℕ, ◌≡◌, ◌+◌, ◌≤◌, [], ◌∷◌, refl, sym, subst, true, arith, inl, inr}
 use Rattle.std.specs.Prelude.{Some, slice_get, slice_set, max}
 use Rattle.std.proofs.lemmas.Bool.{eq-eqb}
 use Rattle.std.proofs.lemmas.Bool.Decides.{nat_tests}
@@ -9,18 +9,17 @@ use Rattle.ov_model.specs.declared.act.Act.{Act}
 use Rattle.ov_model.specs.declared.act.Act.TheVariants as act
 use Rattle.ov_model.specs.declared.act.Call.{Call}
 use Rattle.ov_model.specs.declared.entry.Entry.{Entry}
-use Rattle.ov_model.specs.declared.reply.HoldView.{HoldView}
 use Rattle.ov_model.specs.declared.reply.Reply.{Reply}
 use Rattle.ov_model.specs.declared.reply.Reply.TheVariants as reply
 use Rattle.ov_model.specs.Tables.{Table, serials_of, key_serials}
 use Rattle.ov_model.specs.Step.{act_step, step, may_act, May}
-use Rattle.ov_model.specs.Lifetime.{peers_in_reply, keys_in_reply}
 use Rattle.ov_model.specs.Removals.{times, released_by, key_released_by}
 use Rattle.ov_model.proofs.Tallies.{peer_stands, key_stands, Shows, reply_stands, Moves, peer_tally, key_tally, peer_moves, key_moves}
 use Rattle.ov_path.specs.Desks.{Holding, NoHold, Both, PeerLeft, look_holds, held_after, peer_left}
 use Rattle.ov_core.specs.Worlds.{World, Seat, holds_peer, holds_key, peer_holds, key_holds, is_peer, is_key, peer_owes, key_owes, seat_stepped, let_go}
 use Rattle.ov_core.specs.Sounds.{HeldThere, Owes}
-use Rattle.ov_core.proofs.Owing.{due, part_of_total, changed_member}
+use Rattle.ov_core.proofs.Owing.{due, part_of_total}
+use Rattle.ov_core.proofs.Seats.{set_case}
 use Rattle.ov_core.proofs.Balance.{ReleasesFirst, LetsGo, lets_go_first}
 
 -- ---- what a step leaves
@@ -132,9 +131,9 @@ pub seats_there : (w : World) (i : ℕ) (s : Seat) (place : Place) (call : Call)
 seats_there w i s place call owes at may first there j r now_at =
     let after : Seat = seat_stepped w.seats s place call (step w.table.now call) in
     let own : HeldThere (step w.table.now call).after after.hold = there_looked w.table.now call s.hold may (spares_release w i s call.act owes at first i s at) (there i s at) in
-    elim (changed_member w.seats i j after r now_at) [
-      | inl its ↦ subst (λ (x : Seat). HeldThere (step w.table.now call).after x.hold) (sym its) own
-      | inr was ↦ there_after w i s call owes at may first j r was (there j r was)
+    elim (set_case w.seats i j after r now_at) [
+      | inl here ↦ subst (λ (x : Seat). HeldThere (step w.table.now call).after x.hold) (sym here.1) own
+      | inr other ↦ there_after w i s call owes at may first j r other.1 (there j r other.1)
     ]
 
 -- What is left of a hold stands.
