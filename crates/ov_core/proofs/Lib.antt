@@ -22,3 +22,8 @@ pub mod Balance
 pub mod Keeping
 -- What is held stands in the table, whatever step of the table is made.
 pub mod Staying
+-- What each key's counter gives next, after a step of the table and after a draw.
+pub mod Nexts
+-- The packet ids of each key, over all lanes: each kind of event and an answer keep the count, and it ends as
+-- the report's.
+pub mod Counting

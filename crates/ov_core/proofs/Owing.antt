@@ -1,5 +1,5 @@
 -- What is owed, counted: of one serial of a peer or of a key, at the width of numbers.
-use Rattle.std.proofs.Common.{ℕ, ◌≡◌, ◌+◌, ◌<◌, ◌≤◌, zero, suc, List, [], ◌∷◌, refl, sym, ap, ◌∙◌, Bool, true, false, arith, if◌then◌else◌, ◌==◌, inl, inr, ◌⊎◌}
+use Rattle.std.proofs.Common.{ℕ, ◌≡◌, ◌+◌, ◌<◌, ◌≤◌, zero, suc, List, [], ◌∷◌, refl, sym, ap, ◌∙◌, Bool, true, false, arith, if◌then◌else◌, ◌==◌, inl, inr}
 use Rattle.std.specs.Prelude.{filter, Some, slice_get, slice_set}
 use Rattle.std.proofs.lemmas.Bool.Decides.{nat_tests}
 use Rattle.std.proofs.lemmas.Bool.{cases_eq, eq-eqb, ne_eqb}
@@ -60,11 +60,3 @@ module _ {X : Type 0} where
   part_of_total f [] i x at = cc
   part_of_total f (y ∷ xs) zero x at = let its : y ≡ x = cc in let same : f y ≡ f x = ap f its in omega arith
   part_of_total f (y ∷ xs) (suc i) x at = let later : f x ≤ total f xs = part_of_total f xs i x at in omega arith
-
-  -- A member of the changed list is the new one or one of the old.
-  pub changed_member : (xs : List X) (i k : ℕ) (now x : X) → slice_get (slice_set xs i now) k ≡ Some x → (x ≡ now) ⊎ (slice_get xs k ≡ Some x)
-  changed_member [] i k now x at = absurd (cc)
-  changed_member (y ∷ xs) zero zero now x at = inl (let its : now ≡ x = cc in sym its)
-  changed_member (y ∷ xs) zero (suc k) now x at = inr at
-  changed_member (y ∷ xs) (suc i) zero now x at = inr at
-  changed_member (y ∷ xs) (suc i) (suc k) now x at = changed_member xs i k now x at

@@ -18,7 +18,8 @@ use Rattle.ov_model.proofs.Tallies.{peer_stands, key_stands, Shows, reply_stands
 use Rattle.ov_path.specs.Desks.{Holding, NoHold, Both, PeerLeft, look_holds, held_after, peer_left}
 use Rattle.ov_core.specs.Worlds.{World, Seat, holds_peer, holds_key, peer_holds, key_holds, is_peer, is_key, peer_owes, key_owes, seat_stepped, let_go}
 use Rattle.ov_core.specs.Sounds.{HeldThere, Owes}
-use Rattle.ov_core.proofs.Owing.{due, part_of_total, changed_member}
+use Rattle.ov_core.proofs.Owing.{due, part_of_total}
+use Rattle.ov_core.proofs.Seats.{set_case}
 use Rattle.ov_core.proofs.Balance.{ReleasesFirst, LetsGo, lets_go_first}
 
 -- ---- what a step leaves
@@ -130,9 +131,9 @@ pub seats_there : (w : World) (i : ℕ) (s : Seat) (place : Place) (call : Call)
 seats_there w i s place call owes at may first there j r now_at =
     let after : Seat = seat_stepped w.seats s place call (step w.table.now call) in
     let own : HeldThere (step w.table.now call).after after.hold = there_looked w.table.now call s.hold may (spares_release w i s call.act owes at first i s at) (there i s at) in
-    elim (changed_member w.seats i j after r now_at) [
-      | inl its ↦ subst (λ (x : Seat). HeldThere (step w.table.now call).after x.hold) (sym its) own
-      | inr was ↦ there_after w i s call owes at may first j r was (there j r was)
+    elim (set_case w.seats i j after r now_at) [
+      | inl here ↦ subst (λ (x : Seat). HeldThere (step w.table.now call).after x.hold) (sym here.1) own
+      | inr other ↦ there_after w i s call owes at may first j r other.1 (there j r other.1)
     ]
 
 -- What is left of a hold stands.
