@@ -27,3 +27,5 @@ pub mod Nexts
 -- The packet ids of each key, over all lanes: each kind of event and an answer keep the count, and it ends as
 -- the report's.
 pub mod Counting
+-- A script that runs stays sound with what a turn makes: an event of one lane, and the answer of its line.
+pub mod Happening
