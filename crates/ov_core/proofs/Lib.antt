@@ -29,3 +29,7 @@ pub mod Nexts
 pub mod Counting
 -- A script that runs stays sound with what a turn makes: an event of one lane, and the answer of its line.
 pub mod Happening
+-- What a line under way asks for, and that it asks for nothing once it is over.
+pub mod Ends
+-- A turn of a lane is a turn of the definition, and the script that runs goes on.
+pub mod Running
