@@ -27,3 +27,5 @@ pub mod Nexts
 -- The packet ids of each key, over all lanes: each kind of event and an answer keep the count, and it ends as
 -- the report's.
 pub mod Counting
+-- What a line under way asks for, and that it asks for nothing once it is over.
+pub mod Ends
