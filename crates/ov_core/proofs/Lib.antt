@@ -29,3 +29,5 @@ pub mod Nexts
 pub mod Counting
 -- What a line under way asks for, and that it asks for nothing once it is over.
 pub mod Ends
+-- A turn that a line took is a turn of the definition, and keeps a script sound.
+pub mod Taking
