@@ -40,44 +40,12 @@ use Rattle.ov_table.specs.Recorded.{entry_of}
 use Rattle.ov_table.proofs.Told.{told_step}
 use Rattle.ov_core.specs.Worlds.{World, Seat, next_of, seen_from, seat_stepped, after_step, shard_of, judged_next, after_replay, drawn_of, next_after, after_draw, after_key, after_peer, no_line}
 use Rattle.ov_core.specs.Sounds.{HeldThere, IsDry, SeatSound, Owes, WorldSound}
+use Rattle.ov_core.proofs.Nexts.{next_stepped, drawn_most, dry_stays}
 use Rattle.ov_core.proofs.Seats.{length-slice_set, set_case}
 use Rattle.ov_core.proofs.Staying.{seats_there, there_left}
 use Rattle.ov_core.proofs.Balance.{ReleasesFirst, LooksFree, call_first, owed_first, step_owes, key_owes_back, peer_owes_back, still_owes}
 
 -- ---- counters
-
-get_or_default : (ys : List ℕ) (k d : ℕ) → get_or (map (λ _. d) ys) k d ≡ d
-get_or_default [] k d = refl
-get_or_default (y ∷ ys) zero d = refl
-get_or_default (y ∷ ys) (suc k) d = get_or_default ys k d
-
--- More counters at the first id change none.
-get_or_more : (xs ys : List ℕ) (k d : ℕ) → get_or (xs ++ map (λ _. d) ys) k d ≡ get_or xs k d
-get_or_more [] ys k d = get_or_default ys k d
-get_or_more (x ∷ xs) ys zero d = refl
-get_or_more (x ∷ xs) ys (suc k) d = get_or_more xs ys k d
-
-pub next_stepped : (w : World) (i : ℕ) (s : Seat) (place : Place) (call : Call) (key : ℕ) → next_of (after_step w i s place call) key ≡ next_of w key
-next_stepped w i s place call key = get_or_more w.next (key_made_by call.act (step w.table.now call).reply) key w.first
-
-get_or_set : (xs : List ℕ) (i v d : ℕ) → i < length xs → get_or (slice_set xs i v) i d ≡ v
-get_or_set [] i v d below = absurd (omega arith)
-get_or_set (x ∷ xs) zero v d below = refl
-get_or_set (x ∷ xs) (suc i) v d below = get_or_set xs i v d (omega arith)
-
-get_or_other : (xs : List ℕ) (i k v d : ℕ) → k ≢ i → get_or (slice_set xs i v) k d ≡ get_or xs k d
-get_or_other [] i k v d other = refl
-get_or_other (x ∷ xs) zero zero v d other = absurd (other refl)
-get_or_other (x ∷ xs) zero (suc k) v d other = refl
-get_or_other (x ∷ xs) (suc i) zero v d other = refl
-get_or_other (x ∷ xs) (suc i) (suc k) v d other = get_or_other xs i k v d (λ e. other (ap suc e))
-
--- The counter that was asked, and the others.
-pub next_drawn : (w : World) (i : ℕ) (s : Seat) (key : ℕ) → key < length w.next → next_of (after_draw w i s key) key ≡ next_after (next_of w key)
-next_drawn w i s key below = get_or_set w.next key (next_after (next_of w key)) w.first below
-
-pub next_undrawn : (w : World) (i : ℕ) (s : Seat) (key other : ℕ) → other ≢ key → next_of (after_draw w i s key) other ≡ next_of w other
-next_undrawn w i s key other differs = get_or_other w.next key other (next_after (next_of w key)) w.first differs
 
 -- As many keys more are made as the reply says.
 keys_made_by : (t : Table) (now : ℕ) (a : Act) → (act_step t now a).after.keys_made ≡ t.keys_made + length (key_made_by a (act_step t now a).reply)
@@ -354,12 +322,6 @@ draws_below w i s key sound s_is holds =
     let unmade : w.table.now.keys_made ≤ key → key_stands key w.table.now ≡ 0 = rw (← sound.told.last) (key_room key w.table.journal sound.told.run).unmade in
     rw sound.made (holds_below w.table.now.keys_made (key_stands key w.table.now) key unmade there)
 
-after_most : (n : ℕ) → n ≤ 4294967296 → next_after n ≤ 4294967296
-after_most n most = grind (arith, nat_tests)
-
-after_last : (n : ℕ) → n ≡ 4294967296 → next_after n ≡ 4294967296
-after_last n last = rw last refl
-
 drawn_dry : (v : World) (h x : HoldView) (n : ℕ) → (n ≡ 4294967296 → next_of v h.key ≡ 4294967296) → n ≤ 4294967296 → IsDry v (Both h) (stand.Drew x (drawn_of n))
 drawn_dry v h x n last most =
     elim (nat_lt n 4294967296) as (λ b. nat_lt n 4294967296 ≡ b → IsDry v (Both h) (stand.Drew x (if b then drawn.Id n else drawn.Spent))) [
@@ -379,20 +341,13 @@ keeps_draw w i s key sound s_is holds was =
     let e : Event = Drew key (drawn_of (next_of w key)) in
     let new : Seat = record s { events = s.events ++ e ∷ [] } in
     let below : key < length w.next = draws_below w i s key sound s_is holds in
-    let drew : next_of v key ≡ next_after (next_of w key) = next_drawn w i s key below in
-    let later : (k : ℕ) → next_of w k ≡ 4294967296 → next_of v k ≡ 4294967296 = λ k last. elim (cases_eq k key) [
-      | inl same ↦ subst (λ (n : ℕ). next_of v n ≡ 4294967296) (sym same) (drew ∙ after_last (next_of w key) (subst (λ (n : ℕ). next_of w n ≡ 4294967296) same last))
-      | inr other ↦ next_undrawn w i s key k other ∙ last
-    ] in
+    let later : (k : ℕ) → next_of w k ≡ 4294967296 → next_of v k ≡ 4294967296 = λ k last. dry_stays w i s key k below last in
     record {
       told = sound.told;
       eight = sound.eight;
       judges = sound.judges;
       made = length-slice_set w.next key (next_after (next_of w key)) ∙ sound.made;
-      most = λ k. elim (cases_eq k key) [
-        | inl same ↦ subst (λ (n : ℕ). next_of v n ≤ 4294967296) (sym same) (rw drew (after_most (next_of w key) (sound.most key)))
-        | inr other ↦ rw (next_undrawn w i s key k other) (sound.most k)
-      ];
+      most = λ k. drawn_most w i s key k below (sound.most k);
       spent = λ k is. later k (sound.spent k is);
       owes = still_owes w v i s new sound.owes s_is refl refl refl refl;
       seats = λ j t t_is. elim (set_case w.seats i j new t t_is) [

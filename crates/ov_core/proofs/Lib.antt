@@ -31,3 +31,5 @@ pub mod Counting
 pub mod Ends
 -- A turn that a line took is a turn of the definition, and keeps a script sound.
 pub mod Taking
+-- A script that runs stays sound with what a turn makes: an event of one lane, and the answer of its line.
+pub mod Happening
