@@ -27,6 +27,10 @@ pub mod Nexts
 -- The packet ids of each key, over all lanes: each kind of event and an answer keep the count, and it ends as
 -- the report's.
 pub mod Counting
+-- What a line under way asks for, and that it asks for nothing once it is over.
+pub mod Ends
+-- A turn that a line took is a turn of the definition, and keeps a script sound.
+pub mod Taking
 -- A script that runs stays sound with what a turn makes: an event of one lane, and the answer of its line.
 pub mod Happening
 -- What a line under way asks for, and that it asks for nothing once it is over.

@@ -30,7 +30,7 @@ set_there (y ∷ xs) zero (suc k) v other = refl
 set_there (y ∷ xs) (suc i) zero v other = refl
 set_there (y ∷ xs) (suc i) (suc k) v other = set_there xs i k v (λ e. other (ap suc e))
 
-same_some : {X : Type 0} (o : Option X) (x y : X) → o ≡ Some x → o ≡ Some y → x ≡ y
+pub same_some : {X : Type 0} (o : Option X) (x y : X) → o ≡ Some x → o ≡ Some y → x ≡ y
 same_some o x y a b = let e : Some x ≡ Some y = sym a ∙ b in cc
 
 module _ {L S : Type 0} where
