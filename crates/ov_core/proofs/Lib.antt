@@ -29,11 +29,9 @@ pub mod Nexts
 pub mod Counting
 -- What a line under way asks for, and that it asks for nothing once it is over.
 pub mod Ends
--- A turn that a line took is a turn of the definition, and keeps a script sound.
-pub mod Taking
 -- A script that runs stays sound with what a turn makes: an event of one lane, and the answer of its line.
 pub mod Happening
--- What a line under way asks for, and that it asks for nothing once it is over.
-pub mod Ends
--- A turn of a lane is a turn of the definition, and the script that runs goes on.
+-- A turn that a line took is a turn of the definition, and keeps a script sound.
+pub mod Taking
+-- Each lane's line stands ready while the lanes take their turns, from the beginning to the end.
 pub mod Running

@@ -18,4 +18,5 @@ pub record LaneReady (via : Addr → Addr) (w : World) (i : ℕ) (lane : Lane) (
 -- A script runs: it is sound, and each lane's line stands at its stage.
 pub record Running (via : Addr → Addr) (s : Session) (stages : List Stage) : Type 0 where
   pub sound : Sound via s
+  pub staged : length stages ≡ length s.lanes
   pub ready : (i : ℕ) (lane : Lane) (seat : Seat) (at : Stage) → slice_get s.lanes i ≡ Some lane → slice_get s.world.seats i ≡ Some seat → slice_get stages i ≡ Some at → LaneReady via s.world i lane seat at
