@@ -20,16 +20,15 @@ use Rattle.ov_path.specs.Walks.{Walking, holding_of, IsOwn, IsOpen, Trail, GoesO
 use Rattle.ov_path.specs.declared.stage.Stage.{Stage}
 use Rattle.ov_path.specs.declared.stage.Stage.TheVariants as stage
 use Rattle.ov_path.proofs.Going.{seen, walking_grows}
-use Rattle.ov_core.specs.Worlds.{World, Seat, seen_from, seat_stepped, judged_next, drawn_of, next_of, after_draw, key_given, after_key, peer_given, after_peer, ask_of, happened, Makes}
+use Rattle.ov_core.specs.Worlds.{World, Seat, seen_from, seat_stepped, judged_next, drawn_of, next_of, key_given, peer_given, ask_of, happened, Makes}
 use Rattle.ov_core.specs.Sessions.{Session, Lane, UnderWay, place_of, IsOver, world_after, Goes, answered, Answers, Turn, goes, answers, Turns, in_order, GoesOn, RunsLine, RunsLines}
 use Rattle.ov_core.specs.Sounds.{WorldSound, Sound, IsOf}
 use Rattle.ov_core.proofs.Seats.{length-slice_set, same_some, set_here, set_there, set_case}
 use Rattle.ov_core.proofs.Moving.{key_of_more}
 use Rattle.ov_core.proofs.Linking.{happened_by}
-use Rattle.ov_core.proofs.Keeping.{keeps_free}
-use Rattle.ov_core.proofs.Counting.{counts_step, counts_replay, counts_draw, counts_key, counts_peer, counts_answered}
 use Rattle.ov_core.proofs.Ends.{IsBegun, hold_by, open_asks, asks_known, over_next, judged_first}
-use Rattle.ov_core.proofs.Turning.{in_world, sound_step, sound_judged, sound_quiet, sound_answered}
+use Rattle.ov_core.proofs.Happening.{JudgesFirst, sound_event, sound_over}
+use Rattle.ov_core.proofs.Turning.{in_world}
 
 -- ---- the seat after an event
 
@@ -130,6 +129,14 @@ begun_stage via place line (stage.Used h x a) es e w trail is = tt
 begun_stage via place line (stage.KeyGiven h x a) es e w trail is = tt
 begun_stage via place line (stage.PeerGiven h x a) es e w trail is = tt
 
+-- A replay step is asked for where the line has none yet.
+judges_first : (e : Event) (es : List Event) → ((key id : ℕ) → request e ≡ Replay key id → judgements_in es ≡ []) → JudgesFirst e es
+judges_first (Judged j) es none = none j.key j.id refl
+judges_first (Stepped x) es none = tt
+judges_first (Drew key d) es none = tt
+judges_first (GaveKey key g) es none = tt
+judges_first (GavePeer peer g) es none = tt
+
 module _ {via : Addr → Addr} {s : Session} {i : ℕ} {u : UnderWay s i} {at : Stage} {event : Event} {v : World} where
   -- The seat at which the lane is then.
   new_seat : (t : Seat) → (took : Took via s i u at event v) → slice_get v.seats i ≡ Some t → t ≡ (next_seat s.world i u.seat event v took.makes).new
@@ -184,38 +191,15 @@ module _ {via : Addr → Addr} {s : Session} {i : ℕ} {u : UnderWay s i} {at : 
 
   -- What was sound stays so.
   pub took_sound : Sound via s → WorldSound v → Took via s i u at event v → Sound via (in_world s v)
-  took_sound sound world took = by_event event sound world took.makes took.own
-      (λ key id is. judged_first via (place_of i u.lane) u.line (seen_from via s.world u.seat) at u.seat.owing (key_of s.world.table.journal) key id took.walking.trail (sym is ∙ asked_before took ∙ rw took.walking.stand refl))
-    where
-      by_event : (e : Event) → Sound via s → WorldSound v → Makes s.world i u.seat e v → IsOwn (place_of i u.lane) u.line.at e → ((key id : ℕ) → request e ≡ Replay key id → judgements_in u.seat.events ≡ []) → Sound via (in_world s v)
-      by_event (Stepped e) sound world makes own first =
-          let P : World → Type 0 = λ x. Sound via (in_world s x) in
-          subst P (sym makes.1) (sound_step via s i u.lane u.seat e.entry.place e.entry.call sound u.lane_is u.seat_is own.0 (subst WorldSound makes.1 world)
-          (λ key. counts_step s i u.seat e.entry.place e.entry.call key u.seat_is (sound.counts key)))
-      by_event (Judged j) sound world makes own first =
-          let P : World → Type 0 = λ x. Sound via (in_world s x) in
-          subst P (sym makes) (sound_judged via s i u.lane u.seat j.place j.key j.id j.at sound u.lane_is u.seat_is own.0 (first j.key j.id refl) (subst WorldSound makes world)
-          (λ key. counts_replay s i u.seat j.place j.key j.id j.at key u.seat_is (sound.counts key)))
-      by_event (Drew drew d) sound world makes own first =
-          let P : World → Type 0 = λ x. Sound via (in_world s x) in
-          subst P (sym makes.1) (sound_quiet via s i u.lane u.seat _ (Drew drew (drawn_of (next_of s.world drew))) (after_draw s.world i u.seat drew) sound u.lane_is u.seat_is refl refl refl refl refl refl (subst WorldSound makes.1 world)
-          (λ key. counts_draw s i u.seat drew key u.seat_is makes.0 (sound.counts key)))
-      by_event (GaveKey given g) sound world makes own first =
-          let P : World → Type 0 = λ x. Sound via (in_world s x) in
-          subst P (sym makes) (sound_quiet via s i u.lane u.seat _ (GaveKey given (key_given s.world i u.seat given)) (after_key s.world i u.seat given) sound u.lane_is u.seat_is refl refl refl refl refl refl (subst WorldSound makes world)
-          (λ key. counts_key s i u.seat given key u.seat_is (sound.counts key)))
-      by_event (GavePeer given g) sound world makes own first =
-          let P : World → Type 0 = λ x. Sound via (in_world s x) in
-          subst P (sym makes) (sound_quiet via s i u.lane u.seat _ (GavePeer given (peer_given s.world i u.seat given)) (after_peer s.world i u.seat given) sound u.lane_is u.seat_is refl refl refl refl refl refl (subst WorldSound makes world)
-          (λ key. counts_peer s i u.seat given key u.seat_is (sound.counts key)))
+  took_sound sound world took =
+      sound_event via s i u.lane u.line.at event v sound u.lane_is (record { seat = u.seat; seat_is = u.seat_is; makes = took.makes }) took.own
+      (judges_first event u.seat.events (λ key id is. judged_first via (place_of i u.lane) u.line (seen_from via s.world u.seat) at u.seat.owing (key_of s.world.table.journal) key id took.walking.trail (sym is ∙ asked_before took ∙ rw took.walking.stand refl))) world
 
 -- ---- answers
 
 -- A line that is over is answered.
 pub over_sound : {via : Addr → Addr} (s : Session) (i : ℕ) (u : UnderWay s i) (v : World) (t : Seat) (a : Answer) → Sound via (in_world s v) → slice_get v.seats i ≡ Some t → WalkOver via (place_of i u.lane) u.line (seen_from via v t) a → Sound via (answered s v i u.lane a)
-over_sound {via} s i u v t a sound t_is over =
-    sound_answered via (in_world s v) i u.lane t u.line a sound u.lane_is t_is u.line_is over.path (keeps_free v i t sound.world t_is over.hold over.owes)
-    (λ key. counts_answered (in_world s v) v i u.lane t a key u.lane_is t_is over.drawn (sound.counts key))
+over_sound {via} s i u v t a sound t_is over = sound_over via (in_world s v) i u.lane t u.line a sound u.lane_is t_is u.line_is over
 
 -- A line that is answered without an event.
 pub none_answers : {via : Addr → Addr} (s : Session) (i : ℕ) (u : UnderWay s i) (a : Answer) → ask_of via s.world u.seat u.line ≡ Nil → WalkOver via (place_of i u.lane) u.line (seen_from via s.world u.seat) a → Answers via i s (answered s s.world i u.lane a)
