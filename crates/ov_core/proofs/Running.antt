@@ -1,15 +1,15 @@
 -- Each lane's line stands ready while the lanes take their turns, from the beginning to the end.
-use Rattle.std.proofs.Common.{ℕ, ◌≡◌, ◌≢◌, ◌+◌, ◌<◌, ◌≤◌, zero, suc, List, [], ◌∷◌, ◌++◌, length, refl, sym, ◌∙◌, ap, subst, arith, inl, inr, ◌⊎◌}
+use Rattle.std.proofs.Common.{ℕ, ◌≡◌, ◌≢◌, ◌<◌, ◌≤◌, zero, suc, List, [], ◌∷◌, ◌++◌, length, refl, sym, ◌∙◌, subst, arith, inl, inr}
 use Rattle.std.specs.Prelude.{replicate, Some, slice_get, slice_set}
 use Rattle.std.specs.List.{AllByRecursion}
 use Rattle.std.proofs.lemmas.Bool.{cases_lt}
 use Rattle.std.proofs.lemmas.Option.{slice_get_within}
 use Rattle.ov_base.specs.declared.address.Addr.{Addr}
 use Rattle.ov_model.specs.declared.answer.Answer.{Answer}
-use Rattle.ov_model.specs.declared.line.Line.{Line}
 use Rattle.ov_model.specs.declared.line.Script.{Script}
 use Rattle.ov_model.specs.Events.{Event}
 use Rattle.ov_model.specs.Keys.{key_of}
+use Rattle.ov_model.specs.Legal.{Legal}
 use Rattle.ov_model.specs.Next.{Nil}
 use Rattle.ov_path.specs.Desks.{Grows}
 use Rattle.ov_path.specs.Walks.{GoesOn, Over}
@@ -19,7 +19,6 @@ use Rattle.ov_path.proofs.Going.{walking_grows}
 use Rattle.ov_core.specs.Worlds.{World, Seat, no_line, lane_count, seen_from, ask_of, Makes}
 use Rattle.ov_core.specs.Sessions.{Lane, Session, place_of, UnderWay, Goes, Answers, answered, begun, IsDone, report_of}
 use Rattle.ov_core.specs.Sounds.{WorldSound, Sound, IsOf}
-use Rattle.ov_model.specs.Legal.{Meets, Legal}
 use Rattle.ov_core.specs.Ready.{LaneReady, Running}
 use Rattle.ov_core.proofs.Seats.{length-slice_set, same_some, set_case, set_here, set_there}
 use Rattle.ov_core.proofs.Beginning.{get_replicate, sound_begun, is_begun}
