@@ -249,9 +249,6 @@ call_first via w s (act.Spend peer key) may = (tt, tt)
 call_first via w s (act.Released serial) may = absurd may
 call_first via w s (act.KeyReleased serial) may = absurd may
 
-pub call_owes : (via : Addr → Addr) (w : World) (i : ℕ) (s : Seat) (place : Place) (call : Call) → IsTold w.table → Owes w → slice_get w.seats i ≡ Some s → May w.table.now call → MayCall (seen_from via w s) call.act → Owes (after_step w i s place call)
-call_owes via w i s place call told owes at may asks = let first = call_first via w s call.act asks in step_owes w i s place call told owes at may first.0 first.1
-
 release_first : (o : Owed) (os : List Owed) (h : Holding) → first_owed os ≡ Some o → ReleasesFirst (release_act o) os × LooksFree (release_act o) h
 release_first (owed.Peer p) os h first = (first, tt)
 release_first (owed.Key k) os h first = (first, tt)
@@ -259,9 +256,6 @@ release_first (owed.Key k) os h first = (first, tt)
 -- The release of what a lane owes first.
 pub owed_first : (a : Act) (o : Owed) (os : List Owed) (h : Holding) → first_owed os ≡ Some o → a ≡ release_act o → ReleasesFirst a os × LooksFree a h
 owed_first a o os h first is = subst (λ b. ReleasesFirst b os × LooksFree b h) (sym is) (release_first o os h first)
-
-pub release_owes : (w : World) (i : ℕ) (s : Seat) (place : Place) (call : Call) (o : Owed) → IsTold w.table → Owes w → slice_get w.seats i ≡ Some s → May w.table.now call → first_owed s.owing ≡ Some o → call.act ≡ release_act o → Owes (after_step w i s place call)
-release_owes w i s place call o told owes at may first is = let both = owed_first call.act o s.owing s.hold first is in step_owes w i s place call told owes at may both.0 both.1
 
 -- ---- give-backs
 

@@ -81,7 +81,7 @@ drawn_same key seats i s r at same j lane x now_at = elim (set_case seats i j r 
   | inr other ↦ (x, other.1, refl)
 ]
 
-pub counts_quiet : (s : Session) (v : World) (i : ℕ) (seat r : Seat) (key : ℕ) → slice_get s.world.seats i ≡ Some seat → v.seats ≡ slice_set s.world.seats i r → ids_under key (draws_in r.events) ≡ ids_under key (draws_in seat.events) → v.first ≡ s.world.first → next_of v key ≡ next_of s.world key → Counts s key → Counts (record s { world = v }) key
+counts_quiet : (s : Session) (v : World) (i : ℕ) (seat r : Seat) (key : ℕ) → slice_get s.world.seats i ≡ Some seat → v.seats ≡ slice_set s.world.seats i r → ids_under key (draws_in r.events) ≡ ids_under key (draws_in seat.events) → v.first ≡ s.world.first → next_of v key ≡ next_of s.world key → Counts s key → Counts (record s { world = v }) key
 counts_quiet s v i seat r key at seats same first next counts =
     let after : Session = record s { world = v } in
     let over : (f : List ℕ → ℕ) → over_lanes f key after ≡ over_lanes f key s = λ f. (ap (λ n. total (λ lane. f (ids_of lane.answers key)) s.lanes + n) (ap (total (λ (x : Seat). f (ids_under key (draws_in x.events)))) seats ∙ seats_same f key s.world.seats i seat r at same)) in
@@ -149,7 +149,7 @@ one_id first n m from = elim (cases_eq n m) [
 ]
 
 -- The next id of a key was drawn for lane i.
-pub counts_more : (s : Session) (v : World) (i : ℕ) (seat r : Seat) (key : ℕ) → slice_get s.world.seats i ≡ Some seat → v.seats ≡ slice_set s.world.seats i r → ids_under key (draws_in r.events) ≡ ids_under key (draws_in seat.events) ++ next_of s.world key ∷ [] → v.first ≡ s.world.first → next_of v key ≡ next_of s.world key + 1 → Counts s key → Counts (record s { world = v }) key
+counts_more : (s : Session) (v : World) (i : ℕ) (seat r : Seat) (key : ℕ) → slice_get s.world.seats i ≡ Some seat → v.seats ≡ slice_set s.world.seats i r → ids_under key (draws_in r.events) ≡ ids_under key (draws_in seat.events) ++ next_of s.world key ∷ [] → v.first ≡ s.world.first → next_of v key ≡ next_of s.world key + 1 → Counts s key → Counts (record s { world = v }) key
 counts_more s v i seat r key at seats more first next counts =
     let n : ℕ = next_of s.world key in
     let after : Session = record s { world = v } in

@@ -35,7 +35,7 @@ pub next_others : (w : World) (i : ℕ) (s : Seat) (key other : ℕ) → other �
 next_others w i s key other differs = get_or-set_other w.next key other (next_after (next_of w key)) w.first differs
 
 -- Each counter after a draw is as it was, or is the one that was asked.
-pub next_cases : (w : World) (i : ℕ) (s : Seat) (key other : ℕ) → key < length w.next → (next_of (after_draw w i s key) other ≡ next_of w other) ⊎ ((other ≡ key) × (next_of (after_draw w i s key) other ≡ next_after (next_of w other)))
+next_cases : (w : World) (i : ℕ) (s : Seat) (key other : ℕ) → key < length w.next → (next_of (after_draw w i s key) other ≡ next_of w other) ⊎ ((other ≡ key) × (next_of (after_draw w i s key) other ≡ next_after (next_of w other)))
 next_cases w i s key other below = elim (cases_eq other key) [
   | inl same ↦ inr (same, subst (λ k. next_of (after_draw w i s key) k ≡ next_after (next_of w k)) (sym same) (next_drawn w i s key below))
   | inr differs ↦ inl (next_others w i s key other differs)
@@ -66,10 +66,3 @@ drawn_cases next = elim (nat_lt next 4294967296) as (λ b. nat_lt next 429496729
   | true ↦ λ is. inl (grind (arith, nat_tests), rw is refl, rw is refl)
   | false ↦ λ is. inr (grind (arith, nat_tests), rw is refl, rw is refl)
 ] refl
-
--- A lane that was answered Spent asked a counter that gave its last id.
-pub spent_dry : (w : World) (i : ℕ) (s : Seat) (key : ℕ) → key < length w.next → next_of w key ≤ 4294967296 → drawn_of (next_of w key) ≡ drawn.Spent → next_of (after_draw w i s key) key ≡ 4294967296
-spent_dry w i s key below most spent = elim (drawn_cases (next_of w key)) [
-  | inl left ↦ absurd (let wrong : drawn.Id (next_of w key) ≡ drawn.Spent = sym left.1 ∙ spent in cc)
-  | inr none ↦ next_drawn w i s key below ∙ none.2 ∙ omega (arith, none.0)
-]

@@ -39,11 +39,11 @@ key_stays k t call may none =
     omega arith
 
 -- The step lets go nothing of what is held.
-pub record Spares (a : Act) (h : Holding) : Type 0 where
-  pub peers : (p : ℕ) → 1 ≤ holds_peer p h → times p (released_by a) ≡ 0
-  pub keys : (k : ℕ) → 1 ≤ holds_key k h → times k (key_released_by a) ≡ 0
+record Spares (a : Act) (h : Holding) : Type 0 where
+  peers : (p : ℕ) → 1 ≤ holds_peer p h → times p (released_by a) ≡ 0
+  keys : (k : ℕ) → 1 ≤ holds_key k h → times k (key_released_by a) ≡ 0
 
-pub held_stays : (t : Table) (call : Call) (h : Holding) → May t call → Spares call.act h → HeldThere t h → HeldThere (step t call).after h
+held_stays : (t : Table) (call : Call) (h : Holding) → May t call → Spares call.act h → HeldThere t h → HeldThere (step t call).after h
 held_stays t call NoHold may spares there = tt
 held_stays t call (Both h) may spares there =
     let peer : peer_stands h.peer t ≤ peer_stands h.peer (step t call).after = peer_stays h.peer t call may (spares.peers h.peer (rw (eq-eqb h.peer h.peer refl) (omega arith))) in
@@ -62,7 +62,7 @@ held_stays t call (PeerLeft h) may spares there =
 spares_one : (holds owes out freed left own held : ℕ) → owes ≡ due holds out → left + freed ≡ own → own ≤ owes → held ≤ holds → 1 ≤ held → freed ≡ 0
 spares_one holds owes out freed left own held owed lets part of_all holds_it = grind (arith, nat_tests)
 
-pub spares_release : (w : World) (i : ℕ) (s : Seat) (a : Act) → Owes w → slice_get w.seats i ≡ Some s → ReleasesFirst a s.owing → (j : ℕ) (r : Seat) → slice_get w.seats j ≡ Some r → Spares a r.hold
+spares_release : (w : World) (i : ℕ) (s : Seat) (a : Act) → Owes w → slice_get w.seats i ≡ Some s → ReleasesFirst a s.owing → (j : ℕ) (r : Seat) → slice_get w.seats j ≡ Some r → Spares a r.hold
 spares_release w i s a owes at first j r other =
     let lets : LetsGo a s.owing = lets_go_first a s.owing first in
     record {
@@ -73,7 +73,7 @@ spares_release w i s a owes at first j r other =
     }
 
 -- What any lane holds stands after a step of lane i.
-pub there_after : (w : World) (i : ℕ) (s : Seat) (call : Call) → Owes w → slice_get w.seats i ≡ Some s → May w.table.now call → ReleasesFirst call.act s.owing → (j : ℕ) (r : Seat) → slice_get w.seats j ≡ Some r → HeldThere w.table.now r.hold → HeldThere (step w.table.now call).after r.hold
+there_after : (w : World) (i : ℕ) (s : Seat) (call : Call) → Owes w → slice_get w.seats i ≡ Some s → May w.table.now call → ReleasesFirst call.act s.owing → (j : ℕ) (r : Seat) → slice_get w.seats j ≡ Some r → HeldThere w.table.now r.hold → HeldThere (step w.table.now call).after r.hold
 there_after w i s call owes at may first j r other there = held_stays w.table.now call r.hold may (spares_release w i s call.act owes at first j r other) there
 
 -- ---- what a look-up holds
@@ -120,7 +120,7 @@ spares_taken t now (act.Spend peer key) h spares = spares
 spares_taken t now (act.Released serial) h spares = spares
 spares_taken t now (act.KeyReleased serial) h spares = spares
 
-pub there_looked : (t : Table) (call : Call) (h : Holding) → May t call → Spares call.act h → HeldThere t h → HeldThere (step t call).after (held_after h call.act (step t call).reply)
+there_looked : (t : Table) (call : Call) (h : Holding) → May t call → Spares call.act h → HeldThere t h → HeldThere (step t call).after (held_after h call.act (step t call).reply)
 there_looked t call h may spares there =
     held_stays t call (held_after h call.act (step t call).reply) may (spares_taken t (max t.moment call.at) call.act h spares) (taken_there t (max t.moment call.at) call.act h may there)
 
