@@ -33,3 +33,11 @@ pub mod Ends
 pub mod Taking
 -- A script that runs stays sound with what a turn makes: an event of one lane, and the answer of its line.
 pub mod Happening
+-- Marks and their events, and a list of seats in which one changed.
+pub mod Marks
+-- The room of a seat, and the seats as an event leaves them.
+pub mod Leaving
+-- What each call of the desk leaves that makes no step of the table: a draw, a replay step, the give-backs.
+pub mod Asking
+-- What the world's own proofs give of each event.
+pub mod Awaited
