@@ -41,3 +41,7 @@ pub mod Leaving
 pub mod Asking
 -- What the world's own proofs give of each event.
 pub mod Awaited
+-- What a line under way asks for, and that it asks for nothing once it is over.
+pub mod Ends
+-- A turn of a lane is a turn of the definition, and the script that runs goes on.
+pub mod Running
