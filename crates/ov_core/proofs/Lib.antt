@@ -35,3 +35,13 @@ pub mod Happening
 pub mod Taking
 -- Each lane's line stands ready while the lanes take their turns, from the beginning to the end.
 pub mod Running
+-- Marks and their events, and a list of seats in which one changed.
+pub mod Marks
+-- The room of a seat, and the seats as an event leaves them.
+pub mod Leaving
+-- What each call of the desk leaves that makes no step of the table: a draw, a replay step, the give-backs.
+pub mod Asking
+-- What the world's own proofs give of each event.
+pub mod Awaited
+-- A turn at the world as it is kept is a turn of the definition.
+pub mod Bridging

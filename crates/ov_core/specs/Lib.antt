@@ -1,4 +1,5 @@
 pub mod Worlds
 pub mod Sessions
 pub mod Sounds
+pub mod Seats
 pub mod Ready

@@ -1,0 +1,112 @@
+//! A lane's course: its lines, the answers of those that are over, and the line under way.
+
+use crate::world::{LANES, World};
+use ov_base::{ListOf, Memory};
+use ov_model::{Answer, LaneLog, Line, Place};
+use ov_path::{Progress, Walk};
+use std::alloc::Global;
+
+/// One lane's lines and answers. The line under way is the first one without an answer.
+#[derive(Drop)]
+pub struct Course {
+    lane: u32,
+    lines: Vec<Line>,
+    answers: Vec<Answer>,
+    walk: Walk,
+}
+
+/// What a lane's turn did.
+#[derive(Clone, Copy, Debug, PartialEq, Eq)]
+pub enum Turn {
+    /// The lane has no line left: nothing.
+    Passed,
+    /// The line under way goes on.
+    Going,
+    /// The line is answered.
+    Answered,
+}
+
+impl Course {
+    /// A lane without lines.
+    pub fn new(alloc: Global, lane: u32) -> Course {
+        Course {
+            lane,
+            lines: Vec::new(alloc),
+            answers: Vec::new(alloc),
+            walk: Walk::new(Place { lane, line: 0 }),
+        }
+    }
+
+    /// The lane has one line more.
+    pub fn push(&mut self, line: Line) -> Result<(), Memory> {
+        self.lines.push(line)?;
+        Ok(())
+    }
+
+    /// Makes the lane's next turn.
+    pub fn turn(&mut self, alloc: Global, world: &mut World) -> Result<Turn, Memory> {
+        let Some(line) = self.lines.as_slice().get(self.answers.len()) else {
+            return Ok(Turn::Passed);
+        };
+        world.give_turn(self.lane as usize);
+        match self.walk.turn(alloc, world, line)? {
+            Progress::More => Ok(Turn::Going),
+            Progress::Answered(answer) => {
+                self.answers.push(answer)?;
+                self.walk = Walk::new(Place {
+                    lane: self.lane,
+                    line: self.answers.len() as u64,
+                });
+                world.end_line();
+                Ok(Turn::Answered)
+            }
+        }
+    }
+
+    /// Runs the lane's line to its end.
+    pub fn run_line(&mut self, alloc: Global, world: &mut World) -> Result<Turn, Memory> {
+        loop {
+            match self.turn(alloc, world)? {
+                Turn::Going => (),
+                over => return Ok(over),
+            }
+        }
+    }
+
+    /// Runs the lane's lines to their end.
+    pub fn run_out(&mut self, alloc: Global, world: &mut World) -> Result<(), Memory> {
+        while self.answers.len() < self.lines.len() {
+            self.run_line(alloc, world)?;
+        }
+        Ok(())
+    }
+
+    /// The lane's log.
+    pub fn finish(self, alloc: Global) -> LaneLog {
+        let Course { lines, answers, .. } = self;
+        LaneLog {
+            lines: ListOf::of_vec(lines),
+            answers: ListOf::of_vec(answers),
+            recorded: 0,
+            unsent: ListOf::new(alloc),
+        }
+    }
+}
+
+/// The courses of all lanes, without lines.
+pub fn new_courses(alloc: Global) -> Result<Vec<Course>, Memory> {
+    let mut courses = Vec::new(alloc);
+    for lane in 0..LANES {
+        courses.push(Course::new(alloc, lane))?;
+    }
+    Ok(courses)
+}
+
+/// The logs of all lanes.
+pub fn logs_of(alloc: Global, courses: Vec<Course>) -> Result<ListOf<LaneLog>, Memory> {
+    let mut logs = Vec::new(alloc);
+    for course in courses {
+        logs.push(course.finish(alloc))?;
+    }
+    Ok(ListOf::of_vec(logs))
+}
