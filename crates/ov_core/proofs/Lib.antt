@@ -47,3 +47,5 @@ pub mod Awaited
 pub mod Bridging
 -- The lanes once one line more was dealt to its lane.
 pub mod Dealing
+-- The courses of all lanes stay a script that runs, whichever of them takes a turn or runs on.
+pub mod Coursing

@@ -3,3 +3,5 @@ pub mod Sessions
 pub mod Sounds
 pub mod Seats
 pub mod Ready
+pub mod Courses
+pub mod Scripts
