@@ -49,3 +49,7 @@ pub mod Bridging
 pub mod Dealing
 -- The courses of all lanes stay a script that runs, whichever of them takes a turn or runs on.
 pub mod Coursing
+-- The report of a script that ran by a schedule.
+pub mod Scheduling
+-- The report of a script whose lines ran one after the other.
+pub mod Serially
