@@ -3,3 +3,4 @@ pub mod Sessions
 pub mod Sounds
 pub mod Seats
 pub mod Ready
+pub mod Courses

@@ -1,10 +1,16 @@
 //! A lane's course: its lines, the answers of those that are over, and the line under way.
 
+ghost use Rattle.std.specs.Prelude.{◌≡◌, ◌<◌, ◌++◌, ◌∷◌, [], IfOk, OnOk};
+ghost use Rattle.ov_model.specs.Sizes.{Fits};
+ghost use Rattle.ov_path.specs.declared.stage.Stage.TheVariants as stage;
+ghost use Rattle.ov_core.specs.Courses.{Coursed, IsCourse, Standing, OnCourse, Turned};
+
 use crate::world::{LANES, World};
 use ov_base::{ListOf, Memory};
 use ov_model::{Answer, LaneLog, Line, Place};
 use ov_path::{Progress, Walk};
 use std::alloc::Global;
+use std::marker::Model;
 
 /// One lane's lines and answers. The line under way is the first one without an answer.
 #[derive(Drop)]
@@ -13,6 +19,26 @@ pub struct Course {
     lines: Vec<Line>,
     answers: Vec<Answer>,
     walk: Walk,
+}
+
+impl Model for Course {
+    ghost use Rattle.ov_core.specs.Courses.{Coursed, IsCourse};
+
+    ghost Value = { Coursed };
+
+    ghost view = { λ c. record {
+      lane = c.lane;
+      lines = c.lines.items;
+      answers = c.answers.items;
+      walk = c.walk;
+    } };
+
+    ghost invariant = { λ c. IsCourse (record {
+      lane = c.lane;
+      lines = c.lines.items;
+      answers = c.answers.items;
+      walk = c.walk;
+    }) };
 }
 
 /// What a lane's turn did.
@@ -28,7 +54,11 @@ pub enum Turn {
 
 impl Course {
     /// A lane without lines.
-    pub fn new(alloc: Global, lane: u32) -> Course {
+    pub fn new(alloc: Global, lane: u32) -> Course
+        requires { lane < 64 }
+        ensures { result ≡ record { lane = lane; lines = []; answers = []; walk = record {
+            place = record { lane = lane; line = 0 }; stage = stage.Fresh } } }
+    {
         Course {
             lane,
             lines: Vec::new(alloc),
@@ -38,13 +68,20 @@ impl Course {
     }
 
     /// The lane has one line more.
-    pub fn push(&mut self, line: Line) -> Result<(), Memory> {
+    pub fn push(&mut self, line: Line) -> Result<(), Memory>
+        requires { Fits line.deed }
+        ensures { OnOk result (self.new ≡ record self.old { lines = self.old.lines ++ line ∷ [] }) }
+    {
         self.lines.push(line)?;
         Ok(())
     }
 
     /// Makes the lane's next turn.
-    pub fn turn(&mut self, alloc: Global, world: &mut World) -> Result<Turn, Memory> {
+    pub fn turn(&mut self, alloc: Global, world: &mut World) -> Result<Turn, Memory>
+        ghost all: { Standing }
+        requires on { OnCourse world.old all self.old }
+        ensures { IfOk result (Turned world.old world.new all self.old self.new) }
+    {
         let Some(line) = self.lines.as_slice().get(self.answers.len()) else {
             return Ok(Turn::Passed);
         };
