@@ -4,3 +4,4 @@ pub mod Sounds
 pub mod Seats
 pub mod Ready
 pub mod Courses
+pub mod Scripts

@@ -1,0 +1,58 @@
+-- The courses of all lanes: a script that runs in a world.
+use Rattle.std.specs.Prelude.{ℕ, ◌≡◌, ◌+◌, ◌≤◌, List, [], length, map, replicate, Some, slice_get, slice_set}
+use Rattle.std.specs.List.{range_with_len}
+use Rattle.ov_model.specs.declared.line.Line.{Line}
+use Rattle.ov_model.specs.Legal.{lane_lines}
+use Rattle.ov_path.specs.declared.stage.Stage.TheVariants as stage
+use Rattle.ov_core.specs.Worlds.{lane_count}
+use Rattle.ov_core.specs.Seats.{Seated, itself}
+use Rattle.ov_core.specs.Sessions.{Lane, Session, Turns, RunsLine}
+use Rattle.ov_core.specs.Ready.{Running}
+use Rattle.ov_core.specs.Courses.{Coursed, Standing, OnCourse, lane_of, session_at}
+
+-- The lanes of some courses.
+abbrev pub lanes_of : List Coursed → List Lane
+lanes_of courses = map lane_of courses
+
+-- The lanes of some courses, and the stages at which their lines stand.
+abbrev pub standing_of : List Coursed → Standing
+standing_of courses = record { lanes = lanes_of courses; stages = map (λ c. c.walk.stage) courses }
+
+-- The script that runs in a world, by the courses of its lanes.
+abbrev pub script_at : Seated → List Coursed → Session
+script_at d courses = session_at d (lanes_of courses)
+
+-- The courses of all lanes, in the order of their numbers, stand in a script that runs.
+pub record AreCourses (d : Seated) (courses : List Coursed) : Type 0 where
+  pub running : Running itself (script_at d courses) (standing_of courses).stages
+  pub count : length courses ≡ lane_count
+  pub numbered : (i : ℕ) (c : Coursed) → slice_get courses i ≡ Some c → c.lane ≡ i
+
+-- The lanes once a course became another of its lane, and the stages of their lines.
+abbrev pub standing_then : Standing → Coursed → Standing
+standing_then all x = record { lanes = slice_set all.lanes x.lane (lane_of x); stages = slice_set all.stages x.lane x.walk.stage }
+
+-- A line of the lane ran to its end: a last turn answered it.
+pub record LineRan (d e : Seated) (all : Standing) (c x : Coursed) : Type 0 where
+  pub runs : RunsLine itself c.lane (session_at d all.lanes) (session_at e (standing_then all x).lanes)
+  pub lane : x.lane ≡ c.lane
+  pub lines : x.lines ≡ c.lines
+  pub answered : length x.answers ≡ length c.answers + 1
+  pub on : OnCourse e (standing_then all x) x
+
+-- All lines of the lane ran to their end, by so many turns of it.
+pub record LinesRan (d e : Seated) (all : Standing) (c x : Coursed) : Type 0 where
+  pub count : ℕ
+  pub turns : Turns itself (session_at d all.lanes) (replicate count c.lane) (session_at e (standing_then all x).lanes)
+  pub lane : x.lane ≡ c.lane
+  pub lines : x.lines ≡ c.lines
+  pub done : length x.lines ≤ length x.answers
+  pub on : OnCourse e (standing_then all x) x
+
+-- A lane with some lines, none of them begun.
+abbrev pub course_of : List Line → ℕ → Coursed
+course_of lines i = record { lane = i; lines = lane_lines lines i; answers = []; walk = record { place = record { lane = i; line = 0 }; stage = stage.Fresh } }
+
+-- All lanes with the lines of a script that name them.
+abbrev pub dealt : List Line → List Coursed
+dealt lines = map (course_of lines) (range_with_len 0 lane_count)
