@@ -3,7 +3,9 @@
 ghost use Rattle.std.specs.Prelude.{◌≡◌, ◌<◌, ◌++◌, ◌∷◌, [], IfOk, OnOk};
 ghost use Rattle.ov_model.specs.Sizes.{Fits};
 ghost use Rattle.ov_path.specs.declared.stage.Stage.TheVariants as stage;
-ghost use Rattle.ov_core.specs.Courses.{Coursed, IsCourse, Standing, OnCourse, Turned};
+ghost use Rattle.ov_path.specs.Walks.{GoesOn, Progressed, MadeBy};
+ghost use Rattle.ov_core.specs.Seats.{Happened, Kept, itself, shown_of};
+ghost use Rattle.ov_core.specs.Courses.{SomeCourse, TurnedIn};
 
 use crate::world::{LANES, World};
 use ov_base::{ListOf, Memory};
@@ -78,15 +80,14 @@ impl Course {
 
     /// Makes the lane's next turn.
     pub fn turn(&mut self, alloc: Global, world: &mut World) -> Result<Turn, Memory>
-        ghost all: { Standing }
-        requires on { OnCourse world.old all self.old }
-        ensures { IfOk result (Turned world.old world.new all self.old self.new) }
+        requires on { SomeCourse world.old self.old }
+        ensures { IfOk result (TurnedIn world.old world.new self.old self.new) }
     {
         let Some(line) = self.lines.as_slice().get(self.answers.len()) else {
             return Ok(Turn::Passed);
         };
         world.give_turn(self.lane as usize);
-        match self.walk.turn(alloc, world, line)? {
+        match take_turn(alloc, world, &mut self.walk, line)? {
             Progress::More => Ok(Turn::Going),
             Progress::Answered(answer) => {
                 self.answers.push(answer)?;
@@ -128,6 +129,26 @@ impl Course {
             unsent: ListOf::new(alloc),
         }
     }
+}
+
+/// Makes one turn of a line, for the lane that has its turn.
+fn take_turn(
+    alloc: Global,
+    world: &mut World,
+    walk: &mut Walk,
+    line: &Line,
+) -> Result<Progress, Memory>
+    requires goes { GoesOn itself walk.old.place line.now (shown_of world.old) walk.old.stage }
+    requires fits { Fits line.now.deed }
+    ensures then { IfOk result (Progressed itself walk.old.place line.now (shown_of world.new) walk.new.stage) }
+    ensures made { IfOk result (λ r.
+        MadeBy shown_of Happened itself walk.old.place line.now r world.old world.new) }
+    ensures place { walk.new.place ≡ walk.old.place }
+    ensures kept { OnOk result (Kept world.new) }
+{
+    let progress = walk.turn(alloc, world, line)?;
+    world.keeps();
+    Ok(progress)
 }
 
 /// The courses of all lanes, without lines.
