@@ -45,6 +45,11 @@ pub record OnCourse (d : Seated) (all : Standing) (c : Coursed) : Type 0 where
   pub lane_is : slice_get all.lanes c.lane ≡ Some (lane_of c)
   pub stage_is : slice_get all.stages c.lane ≡ Some c.walk.stage
 
+-- A course is that of its lane in some script that runs.
+pub record SomeCourse (d : Seated) (c : Coursed) : Type 0 where
+  pub all : Standing
+  pub on : OnCourse d all c
+
 -- The lane had no line left, and all is as it was.
 pub record Passed (d e : Seated) (c x : Coursed) : Type 0 where
   pub none : length c.lines ≤ length c.answers
@@ -69,3 +74,7 @@ abbrev pub Turned : (d e : Seated) → Standing → (c x : Coursed) → Turn →
 Turned d e all c x turn.Passed = Passed d e c x
 Turned d e all c x turn.Going = Went d e all c x
 Turned d e all c x turn.Answered = WasAnswered d e all c x
+
+-- A turn, in whichever script the course is its lane's.
+abbrev pub TurnedIn : (d e : Seated) → (c x : Coursed) → Turn → Type 0
+TurnedIn d e c x r = (all : Standing) → OnCourse d all c → Turned d e all c x r

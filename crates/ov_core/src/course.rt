@@ -1,10 +1,18 @@
 //! A lane's course: its lines, the answers of those that are over, and the line under way.
 
+ghost use Rattle.std.specs.Prelude.{◌≡◌, ◌<◌, ◌++◌, ◌∷◌, [], IfOk, OnOk};
+ghost use Rattle.ov_model.specs.Sizes.{Fits};
+ghost use Rattle.ov_path.specs.declared.stage.Stage.TheVariants as stage;
+ghost use Rattle.ov_path.specs.Walks.{GoesOn, Progressed, MadeBy};
+ghost use Rattle.ov_core.specs.Seats.{Happened, Kept, itself, shown_of};
+ghost use Rattle.ov_core.specs.Courses.{SomeCourse, TurnedIn};
+
 use crate::world::{LANES, World};
 use ov_base::{ListOf, Memory};
 use ov_model::{Answer, LaneLog, Line, Place};
 use ov_path::{Progress, Walk};
 use std::alloc::Global;
+use std::marker::Model;
 
 /// One lane's lines and answers. The line under way is the first one without an answer.
 #[derive(Drop)]
@@ -13,6 +21,26 @@ pub struct Course {
     lines: Vec<Line>,
     answers: Vec<Answer>,
     walk: Walk,
+}
+
+impl Model for Course {
+    ghost use Rattle.ov_core.specs.Courses.{Coursed, IsCourse};
+
+    ghost Value = { Coursed };
+
+    ghost view = { λ c. record {
+      lane = c.lane;
+      lines = c.lines.items;
+      answers = c.answers.items;
+      walk = c.walk;
+    } };
+
+    ghost invariant = { λ c. IsCourse (record {
+      lane = c.lane;
+      lines = c.lines.items;
+      answers = c.answers.items;
+      walk = c.walk;
+    }) };
 }
 
 /// What a lane's turn did.
@@ -28,7 +56,11 @@ pub enum Turn {
 
 impl Course {
     /// A lane without lines.
-    pub fn new(alloc: Global, lane: u32) -> Course {
+    pub fn new(alloc: Global, lane: u32) -> Course
+        requires { lane < 64 }
+        ensures { result ≡ record { lane = lane; lines = []; answers = []; walk = record {
+            place = record { lane = lane; line = 0 }; stage = stage.Fresh } } }
+    {
         Course {
             lane,
             lines: Vec::new(alloc),
@@ -38,18 +70,24 @@ impl Course {
     }
 
     /// The lane has one line more.
-    pub fn push(&mut self, line: Line) -> Result<(), Memory> {
+    pub fn push(&mut self, line: Line) -> Result<(), Memory>
+        requires { Fits line.deed }
+        ensures { OnOk result (self.new ≡ record self.old { lines = self.old.lines ++ line ∷ [] }) }
+    {
         self.lines.push(line)?;
         Ok(())
     }
 
     /// Makes the lane's next turn.
-    pub fn turn(&mut self, alloc: Global, world: &mut World) -> Result<Turn, Memory> {
+    pub fn turn(&mut self, alloc: Global, world: &mut World) -> Result<Turn, Memory>
+        requires on { SomeCourse world.old self.old }
+        ensures { IfOk result (TurnedIn world.old world.new self.old self.new) }
+    {
         let Some(line) = self.lines.as_slice().get(self.answers.len()) else {
             return Ok(Turn::Passed);
         };
         world.give_turn(self.lane as usize);
-        match self.walk.turn(alloc, world, line)? {
+        match take_turn(alloc, world, &mut self.walk, line)? {
             Progress::More => Ok(Turn::Going),
             Progress::Answered(answer) => {
                 self.answers.push(answer)?;
@@ -91,6 +129,26 @@ impl Course {
             unsent: ListOf::new(alloc),
         }
     }
+}
+
+/// Makes one turn of a line, for the lane that has its turn.
+fn take_turn(
+    alloc: Global,
+    world: &mut World,
+    walk: &mut Walk,
+    line: &Line,
+) -> Result<Progress, Memory>
+    requires goes { GoesOn itself walk.old.place line.now (shown_of world.old) walk.old.stage }
+    requires fits { Fits line.now.deed }
+    ensures then { IfOk result (Progressed itself walk.old.place line.now (shown_of world.new) walk.new.stage) }
+    ensures made { IfOk result (λ r.
+        MadeBy shown_of Happened itself walk.old.place line.now r world.old world.new) }
+    ensures place { walk.new.place ≡ walk.old.place }
+    ensures kept { OnOk result (Kept world.new) }
+{
+    let progress = walk.turn(alloc, world, line)?;
+    world.keeps();
+    Ok(progress)
 }
 
 /// The courses of all lanes, without lines.
