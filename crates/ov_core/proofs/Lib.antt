@@ -8,5 +8,40 @@ pub mod Marks
 pub mod Leaving
 -- What each call of the desk leaves that makes no step of the table: a draw, a replay step, the give-backs.
 pub mod Asking
--- What the world's own proofs give of each event.
-pub mod Awaited
+-- What may be asked of the table: what is held stands there, and what is owed is on its way out.
+pub mod Mays
+-- A script that runs stays sound with each event of a lane and with each answer.
+pub mod Turning
+-- An event that a line asked for is the event of the definition.
+pub mod Linking
+-- Before any turn a script is sound.
+pub mod Beginning
+-- A script whose lanes are done has a legal report.
+pub mod Ending
+-- A sound script whose lanes are done gives the parts of a legal report.
+pub mod Reporting
+-- What is owed, counted: of one serial of a peer or of a key, at the width of numbers.
+pub mod Owing
+-- What stands once, and what a look-up finds is live.
+pub mod There
+-- What is owed after each kind of event.
+pub mod Balance
+-- What every event of every lane keeps true of the world.
+pub mod Keeping
+-- What is held stands in the table, whatever step of the table is made.
+pub mod Staying
+-- What each key's counter gives next, after a step of the table and after a draw.
+pub mod Nexts
+-- The packet ids of each key, over all lanes: each kind of event and an answer keep the count, and it ends as
+-- the report's.
+pub mod Counting
+-- A script that runs stays sound with what a turn makes: an event of one lane, and the answer of its line.
+pub mod Happening
+-- The world before any turn, and when a line is over.
+pub mod Newest
+-- What the steps of the table answer: what a look-up finds, and how much a command takes and removes.
+pub mod Acts
+-- The releases of what a step took and removed and nobody holds.
+pub mod Joining
+-- What a step of the table leaves: any that a line may ask for, and a release.
+pub mod Calling

@@ -1,9 +1,8 @@
 -- What a lane's own steps say of it after an event: another lane's step changes nothing but that more keys may
 -- be known, and its own step, replay step or answer is one more.
-use Rattle.std.proofs.Common.{ℕ, ◌≡◌, ◌≢◌, ◌+◌, ◌<◌, ◌≤◌, List, [], ◌∷◌, ◌++◌, length, refl, sym, ◌∙◌, ap, subst, append-nil, arith, Bool}
-use Rattle.std.specs.Prelude.{Option, Some, None, slice_get, map}
+use Rattle.std.proofs.Common.{ℕ, ◌≡◌, ◌≢◌, ◌<◌, List, [], ◌∷◌, ◌++◌, length, refl, sym, ◌∙◌, ap, append-nil, arith}
+use Rattle.std.specs.Prelude.{Option, Some, None, slice_get}
 use Rattle.std.specs.Option.{option_or}
-use Rattle.std.specs.List.{AllByRecursion}
 use Rattle.std.proofs.lemmas.List.{length-map}
 use Rattle.ov_base.specs.declared.address.Addr.{Addr}
 use Rattle.ov_model.specs.declared.place.Place.{Place}
@@ -15,17 +14,16 @@ use Rattle.ov_model.specs.declared.replay.ReplayEntry.{ReplayEntry}
 use Rattle.ov_model.specs.Tables.{Material, empty_table}
 use Rattle.ov_model.specs.Step.{step}
 use Rattle.ov_model.specs.Runs.{last_table}
-use Rattle.ov_model.specs.Events.{Event, Stepped, Judged, Drew, GaveKey, GavePeer, Step, Judgement, judgement_of, steps_of, steps_in, judgements_in, draws_in}
+use Rattle.ov_model.specs.Events.{Event, Stepped, Judged, Drew, GaveKey, GavePeer, Step, judgement_of, steps_of, steps_in, judgements_in}
 use Rattle.ov_model.specs.Keys.{key_of, key_by}
-use Rattle.ov_model.specs.Legal.{LinesRise}
 use Rattle.ov_model.specs.Lanes.{LaneRuns}
 use Rattle.ov_model.specs.Own.{mine, mine_judged, mine_shards}
 use Rattle.ov_model.specs.Path.{Path}
 use Rattle.ov_model.proofs.Going.{steps_after-append}
-use Rattle.ov_model.proofs.Lanes.{AtPlace, Knows, judged_in, own_steps, own_judged, line_done, lane_knows, rise_judged}
+use Rattle.ov_model.proofs.Lanes.{Knows, judged_in, own_steps, own_judged, line_done, lane_knows, rise_judged}
 use Rattle.ov_model.proofs.Mine.{mine_own, mine_other, shards_own, shards_other}
 use Rattle.ov_table.specs.Recorded.{Recorded, stepped, entry_of}
-use Rattle.ov_core.specs.Worlds.{World, Seat}
+use Rattle.ov_core.specs.Worlds.{Seat}
 use Rattle.ov_core.specs.Sessions.{Lane, place_of}
 use Rattle.ov_core.specs.Sounds.{LaneSound}
 
@@ -112,27 +110,27 @@ own_step via r shards place call i lane es last at runs =
     rw more (runs_step es s at known)
 
 -- Another lane made a replay step.
-pub other_judged : (via : Addr → Addr) (w : World) (shard : ℕ) (r : ReplayEntry) (k : ℕ) (lane : Lane) (s : Seat) → r.place.lane ≢ k → LaneSound via w k lane s → LaneSound via (record w { shards = judged_in w.shards shard r }) k lane s
-other_judged via w shard r k lane s other sound =
-    let same : mine_shards k (judged_in w.shards shard r) ≡ mine_shards k w.shards = shards_other k w.shards shard r other in
+pub other_judged : (via : Addr → Addr) (journal : List Entry) (shards : List (List ReplayEntry)) (shard : ℕ) (r : ReplayEntry) (k : ℕ) (lane : Lane) (s : Seat) → r.place.lane ≢ k → LaneSound via journal shards k lane s → LaneSound via journal (judged_in shards shard r) k lane s
+other_judged via journal shards shard r k lane s other sound =
+    let same : mine_shards k (judged_in shards shard r) ≡ mine_shards k shards = shards_other k shards shard r other in
     record { runs = rw same sound.runs; rise = rw same sound.rise }
 
 -- The lane itself did: its first of the line under way.
-pub own_judged_step : (via : Addr → Addr) (w : World) (shard : ℕ) (r : ReplayEntry) (i : ℕ) (lane : Lane) (s : Seat) → r.place ≡ place_of i lane → shard < length w.shards → judgements_in s.events ≡ [] → LaneSound via w i lane s
-    → LaneSound via (record w { shards = judged_in w.shards shard r }) i lane (record s { events = s.events ++ Judged (judgement_of r) ∷ [] })
-own_judged_step via w shard r i lane s at below none sound =
-    let more : mine_shards i (judged_in w.shards shard r) ≡ judged_in (mine_shards i w.shards) shard r = shards_own i w.shards shard r (ap (λ (p : Place). p.lane) at) in
-    let long : length (mine_shards i w.shards) ≡ length w.shards = length-map w.shards (mine_judged i) in
-    let within : shard < length (mine_shards i w.shards) = omega arith in
+pub own_judged_step : (via : Addr → Addr) (journal : List Entry) (shards : List (List ReplayEntry)) (shard : ℕ) (r : ReplayEntry) (i : ℕ) (lane : Lane) (s : Seat) → r.place ≡ place_of i lane → shard < length shards → judgements_in s.events ≡ [] → LaneSound via journal shards i lane s
+    → LaneSound via journal (judged_in shards shard r) i lane (record s { events = s.events ++ Judged (judgement_of r) ∷ [] })
+own_judged_step via journal shards shard r i lane s at below none sound =
+    let more : mine_shards i (judged_in shards shard r) ≡ judged_in (mine_shards i shards) shard r = shards_own i shards shard r (ap (λ (p : Place). p.lane) at) in
+    let long : length (mine_shards i shards) ≡ length shards = length-map shards (mine_judged i) in
+    let within : shard < length (mine_shards i shards) = omega arith in
     record {
       runs = rw more (runs_judged s.events shard r at within none sound.runs);
-      rise = rw more (rise_judged (mine_shards i w.shards) shard r i (length lane.answers) sound.rise sound.runs.judged_within (sound.runs.judging ∙ none) (ap (λ (p : Place). p.line) at));
+      rise = rw more (rise_judged (mine_shards i shards) shard r i (length lane.answers) sound.rise sound.runs.judged_within (sound.runs.judging ∙ none) (ap (λ (p : Place). p.line) at));
     }
 
 -- The line under way was answered.
-pub own_answered : (via : Addr → Addr) (w : World) (i : ℕ) (lane : Lane) (s t : Seat) (line : Line) (a : Answer) → slice_get lane.lines (length lane.answers) ≡ Some line → Path (key_of w.table.journal) via (place_of i lane) line (steps_in s.events) (judgements_in s.events) a → t.events ≡ [] → LaneSound via w i lane s
-    → LaneSound via w i (record lane { answers = lane.answers ++ a ∷ [] }) t
-own_answered via w i lane s t line a line_is path none sound = record {
-  runs = rw none (line_done (mine i (steps_of w.table.journal)) (mine_shards i w.shards) i lane.lines line lane.answers a (steps_in s.events) (judgements_in s.events) sound.runs line_is path);
+pub own_answered : (via : Addr → Addr) (journal : List Entry) (shards : List (List ReplayEntry)) (i : ℕ) (lane : Lane) (s t : Seat) (line : Line) (a : Answer) → slice_get lane.lines (length lane.answers) ≡ Some line → Path (key_of journal) via (place_of i lane) line (steps_in s.events) (judgements_in s.events) a → t.events ≡ [] → LaneSound via journal shards i lane s
+    → LaneSound via journal shards i (record lane { answers = lane.answers ++ a ∷ [] }) t
+own_answered via journal shards i lane s t line a line_is path none sound = record {
+  runs = rw none (line_done (mine i (steps_of journal)) (mine_shards i shards) i lane.lines line lane.answers a (steps_in s.events) (judgements_in s.events) sound.runs line_is path);
   rise = sound.rise;
 }

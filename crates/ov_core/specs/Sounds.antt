@@ -4,13 +4,15 @@ use Rattle.std.specs.List.{AllByRecursion, AllPairs, list_any}
 use Rattle.ov_base.specs.Sums.{total, between}
 use Rattle.ov_base.specs.declared.address.Addr.{Addr}
 use Rattle.ov_model.specs.declared.draw.Drawn.TheVariants as drawn
+use Rattle.ov_model.specs.declared.entry.Entry.{Entry}
+use Rattle.ov_model.specs.declared.line.Script.{Script}
 use Rattle.ov_model.specs.declared.replay.ReplayEntry.{ReplayEntry}
 use Rattle.ov_model.specs.declared.stand.Stand.{Stand}
 use Rattle.ov_model.specs.declared.stand.Stand.TheVariants as stand
 use Rattle.ov_model.specs.Events.{steps_of, steps_in, judgements_in, draws_in}
 use Rattle.ov_model.specs.Keys.{key_of, ids_of, ids_under, spends}
 use Rattle.ov_model.specs.Lanes.{LaneRuns}
-use Rattle.ov_model.specs.Legal.{LinesRise}
+use Rattle.ov_model.specs.Legal.{LinesRise, lane_lines}
 use Rattle.ov_model.specs.Next.{stand_of}
 use Rattle.ov_model.specs.Own.{mine, mine_shards}
 use Rattle.ov_model.specs.Removals.{times}
@@ -19,7 +21,7 @@ use Rattle.ov_model.specs.Tables.{Table, serials_of, key_serials}
 use Rattle.ov_model.proofs.Tallies.{peer_stands, key_stands}
 use Rattle.ov_path.specs.Desks.{Holding, NoHold, Both, PeerLeft}
 use Rattle.ov_table.specs.Recorded.{IsTold}
-use Rattle.ov_core.specs.Worlds.{World, Seat, next_of, peer_holds, key_holds, peer_owes, key_owes}
+use Rattle.ov_core.specs.Worlds.{World, Seat, lane_count, next_of, peer_holds, key_holds, peer_owes, key_owes}
 use Rattle.ov_core.specs.Sessions.{Session, Lane}
 
 -- ---- the world
@@ -81,9 +83,9 @@ pub record Counts (s : Session) (key : ℕ) : Type 0 where
 
 -- By its own steps alone a lane runs: its first lines are answered by their paths, and its line under way made
 -- the events of its seat.
-pub record LaneSound (via : Addr → Addr) (w : World) (i : ℕ) (lane : Lane) (s : Seat) : Type 0 where
-  pub runs : LaneRuns (key_of w.table.journal) via (mine i (steps_of w.table.journal)) (mine_shards i w.shards) i lane.lines lane.answers (steps_in s.events) (judgements_in s.events)
-  pub rise : AllByRecursion (LinesRise i) (mine_shards i w.shards)
+pub record LaneSound (via : Addr → Addr) (journal : List Entry) (shards : List (List ReplayEntry)) (i : ℕ) (lane : Lane) (s : Seat) : Type 0 where
+  pub runs : LaneRuns (key_of journal) via (mine i (steps_of journal)) (mine_shards i shards) i lane.lines lane.answers (steps_in s.events) (judgements_in s.events)
+  pub rise : AllByRecursion (LinesRise i) (mine_shards i shards)
 
 -- What every turn of every lane keeps true of a script that runs.
 pub record Sound (via : Addr → Addr) (s : Session) : Type 0 where
@@ -91,5 +93,11 @@ pub record Sound (via : Addr → Addr) (s : Session) : Type 0 where
   pub seated : length s.world.seats ≡ length s.lanes
   pub within : AllByRecursion (λ e. e.entry.place.lane < length s.lanes) (steps_of s.world.table.journal)
   pub judged_within : AllByRecursion (AllByRecursion (λ r. r.place.lane < length s.lanes)) s.world.shards
-  pub lanes : (i : ℕ) (lane : Lane) (seat : Seat) → slice_get s.lanes i ≡ Some lane → slice_get s.world.seats i ≡ Some seat → LaneSound via s.world i lane seat
+  pub lanes : (i : ℕ) (lane : Lane) (seat : Seat) → slice_get s.lanes i ≡ Some lane → slice_get s.world.seats i ≡ Some seat → LaneSound via s.world.table.journal s.world.shards i lane seat
   pub counts : (key : ℕ) → Counts s key
+
+-- A script that runs is this one, with its send counters begun at `first`.
+pub record IsOf (script : Script) (first : ℕ) (s : Session) : Type 0 where
+  pub first_is : s.world.first ≡ first
+  pub count : length s.lanes ≡ lane_count
+  pub lines : (i : ℕ) (lane : Lane) → slice_get s.lanes i ≡ Some lane → lane.lines ≡ lane_lines script.lines i
