@@ -41,8 +41,6 @@ pub mod Marks
 pub mod Leaving
 -- What each call of the desk leaves that makes no step of the table: a draw, a replay step, the give-backs.
 pub mod Asking
--- What the world's own proofs give of each event.
-pub mod Awaited
 -- A turn at the world as it is kept is a turn of the definition.
 pub mod Bridging
 -- The lanes once one line more was dealt to its lane.
@@ -53,3 +51,15 @@ pub mod Coursing
 pub mod Scheduling
 -- The report of a script whose lines ran one after the other.
 pub mod Serially
+-- What may be asked of the table: what is held stands there, and what is owed is on its way out.
+pub mod Mays
+-- The world before any turn, and when a line is over.
+pub mod Newest
+-- What the steps of the table answer: what a look-up finds, and how much a command takes and removes.
+pub mod Acts
+-- The releases of what a step took and removed and nobody holds.
+pub mod Joining
+-- What a step of the table leaves: any that a line may ask for, and a release.
+pub mod Calling
+-- What the loops over all lanes cite.
+pub mod Loops
