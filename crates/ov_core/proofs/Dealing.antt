@@ -78,3 +78,15 @@ dealt_are script first most = record {
   count = refl;
   numbered = λ i c at. ap (λ (x : Coursed). x.lane) (get_numbered (course_of script.lines) 0 lane_count i c at) ∙ (let from_zero : 0 + i ≡ i = omega arith in from_zero);
 }
+
+-- One number more.
+numbered_next : {X : Type 0} (f : ℕ → X) (b n : ℕ) → map f (range_with_len b (suc n)) ≡ map f (range_with_len b n) ++ f (b + n) ∷ []
+numbered_next f b zero = ap (λ k. f k ∷ []) (let same : b ≡ b + 0 = omega arith in same)
+numbered_next f b (suc n) = ap (λ xs. f b ∷ xs) (numbered_next f (b + 1) n ∙ ap (λ k. map f (range_with_len (b + 1) n) ++ f k ∷ []) (let same : b + 1 + n ≡ b + suc n = omega arith in same))
+
+-- One lane more, without lines.
+pub new_more : (n : ℕ) → map (course_of []) (range_with_len 0 (n + 1)) ≡ map (course_of []) (range_with_len 0 n) ++ course_of [] n ∷ []
+new_more n =
+    let one_more : n + 1 ≡ suc n = omega arith in
+    let zeroth : 0 + n ≡ n = omega arith in
+    ap (λ k. map (course_of []) (range_with_len 0 k)) one_more ∙ numbered_next (course_of []) 0 n ∙ ap (λ k. map (course_of []) (range_with_len 0 n) ++ course_of [] k ∷ []) zeroth

@@ -32,4 +32,4 @@ loop-lane-preserved c =
     let count : length items ≡ 64 = c.loop-lane.invariant.are.count in
     let at : slice_get items lane ≡ Some c.index_mut.result.now = read_there items lane c.index_mut.result.now (omega arith) c.index_mut.ensures.value in
     subst (λ is. TookTurns c.args.world.now c.turn.new.world c.args.courses.now.items (slice_set items lane c.turn.new.self) is) (sym (take_more schedule k 0 c.loop-lane-test.true))
-      (took_more c.args.world.now c.loop-lane.world c.turn.new.world c.args.courses.now.items items (take k schedule) lane c.index_mut.result.now c.turn.new.self c.in_ok-turn.field-0 c.loop-lane.invariant at c.in_ok-turn.ensures)
+    (took_more c.args.world.now c.loop-lane.world c.turn.new.world c.args.courses.now.items items (take k schedule) lane c.index_mut.result.now c.turn.new.self c.in_ok-turn.field-0 c.loop-lane.invariant at c.in_ok-turn.ensures)
