@@ -49,3 +49,5 @@ pub mod Bridging
 pub mod Dealing
 -- The courses of all lanes stay a script that runs, whichever of them takes a turn or runs on.
 pub mod Coursing
+-- What a turn of a walk in the world makes of its course.
+pub mod Stepped
