@@ -1,5 +1,5 @@
 -- Each lane's line stands ready while the lanes take their turns, from the beginning to the end.
-use Rattle.std.proofs.Common.{ℕ, ◌≡◌, ◌≢◌, ◌<◌, ◌≤◌, zero, suc, List, [], ◌∷◌, ◌++◌, length, refl, sym, ◌∙◌, subst, arith, inl, inr}
+use Rattle.std.proofs.Common.{ap, ℕ, ◌≡◌, ◌≢◌, ◌<◌, ◌≤◌, zero, suc, List, [], ◌∷◌, ◌++◌, length, refl, sym, ◌∙◌, subst, arith, inl, inr}
 use Rattle.std.specs.Prelude.{replicate, Some, slice_get, slice_set}
 use Rattle.std.specs.List.{AllByRecursion}
 use Rattle.std.proofs.lemmas.Bool.{cases_lt}
@@ -10,21 +10,23 @@ use Rattle.ov_model.specs.declared.line.Script.{Script}
 use Rattle.ov_model.specs.Events.{Event}
 use Rattle.ov_model.specs.Keys.{key_of}
 use Rattle.ov_model.specs.Legal.{Legal}
-use Rattle.ov_model.specs.Next.{Nil}
+use Rattle.ov_model.specs.declared.place.Place.{Place}
+use Rattle.ov_model.specs.declared.line.Line.{Line}
+use Rattle.ov_model.specs.Next.{Ask, Table, Replay, Draw, GiveKey, GivePeer, Nil, Over as NoAsk}
 use Rattle.ov_path.specs.Desks.{Grows}
 use Rattle.ov_path.specs.Walks.{GoesOn, Over}
 use Rattle.ov_path.specs.declared.stage.Stage.{Stage}
 use Rattle.ov_path.specs.declared.stage.Stage.TheVariants as stage
 use Rattle.ov_path.proofs.Going.{walking_grows}
-use Rattle.ov_core.specs.Worlds.{World, Seat, no_line, lane_count, seen_from, ask_of, Makes}
-use Rattle.ov_core.specs.Sessions.{Lane, Session, place_of, UnderWay, Goes, Answers, answered, begun, IsDone, report_of}
+use Rattle.ov_core.specs.Worlds.{World, Seat, no_line, lane_count, seen_from, ask_of, happened, Makes}
+use Rattle.ov_core.specs.Sessions.{Lane, Session, place_of, UnderWay, Goes, Answers, answered, Turn, goes, answers, passes, Turns, begun, IsDone, report_of}
 use Rattle.ov_core.specs.Sounds.{WorldSound, Sound, IsOf}
 use Rattle.ov_core.specs.Ready.{LaneReady, Running}
 use Rattle.ov_core.proofs.Seats.{length-slice_set, same_some, set_case, set_here, set_there}
 use Rattle.ov_core.proofs.Beginning.{get_replicate, sound_begun, is_begun}
 use Rattle.ov_core.proofs.Reporting.{done_legal}
 use Rattle.ov_core.proofs.Turning.{in_world}
-use Rattle.ov_core.proofs.Taking.{Took, others_seats, others_walk, took_goes, took_answers, took_sound, over_sound, none_answers}
+use Rattle.ov_core.proofs.Taking.{Took, others_seats, others_walk, is_answered, took_goes, took_answers, took_sound, over_sound, none_answers}
 
 -- ---- the lanes that have no turn
 
@@ -44,7 +46,7 @@ others_ready via s stages i seat event v makes running = record {
   each = λ k lane u at differs lane_is u_is at_is.
       let was : LaneReady via s.world k lane u at = running.ready k lane u at lane_is (sym (others_seats s.world i k seat event v makes differs) ∙ u_is) at_is in
       record {
-        goes = λ line line_is. let goes = was.goes line line_is in (others_walk s.world i seat u event v makes goes.0, goes.1);
+        goes = λ line line_is. let stood = was.goes line line_is in (others_walk s.world i seat u event v makes stood.0, stood.1);
         rests = was.rests;
       };
 }
@@ -53,7 +55,7 @@ others_ready via s stages i seat event v makes running = record {
 
 -- Lane i's line goes on.
 goes_ready : (via : Addr → Addr) (s : Session) (stages : List Stage) (i : ℕ) (u : UnderWay s i) (now : Stage) (v : World) (new : Seat) → length stages ≡ length s.lanes → Sound via (in_world s v) → OthersReady via (in_world s v) stages i → slice_get v.seats i ≡ Some new → GoesOn via (place_of i u.lane) u.line (seen_from via v new) now → Running via (in_world s v) (slice_set stages i now)
-goes_ready via s stages i u now v new staged sound others new_is goes = record {
+goes_ready via s stages i u now v new staged sound others new_is on = record {
   sound = sound;
   staged = length-slice_set stages i now ∙ staged;
   ready = λ k lane seat at lane_is seat_is at_is. elim (set_case stages i k now at at_is) [
@@ -61,7 +63,7 @@ goes_ready via s stages i u now v new staged sound others new_is goes = record {
         let its_lane : lane ≡ u.lane = same_some (slice_get s.lanes i) lane u.lane (subst (λ n. slice_get s.lanes n ≡ Some lane) here.0 lane_is) u.lane_is in
         let its_seat : seat ≡ new = same_some (slice_get v.seats i) seat new (subst (λ n. slice_get v.seats n ≡ Some seat) here.0 seat_is) new_is in
         let own : LaneReady via v i u.lane new now = record {
-          goes = λ line line_is. (let its_line : line ≡ u.line = same_some (slice_get u.lane.lines (length u.lane.answers)) line u.line line_is u.line_is in subst (λ x. GoesOn via (place_of i u.lane) x (seen_from via v new) now) (sym its_line) goes);
+          goes = λ line line_is. (let its_line : line ≡ u.line = same_some (slice_get u.lane.lines (length u.lane.answers)) line u.line line_is u.line_is in subst (λ x. GoesOn via (place_of i u.lane) x (seen_from via v new) now) (sym its_line) on);
           rests = λ none. absurd (let below : length u.lane.answers < length u.lane.lines = slice_get_within u.lane.lines (length u.lane.answers) u.line u.line_is in omega arith);
         } in
         rw (here.0, its_lane, its_seat, here.1) own
@@ -97,8 +99,8 @@ answered_ready via s stages i u v new a staged sound others new_is =
 
 -- A turn made an event, and the line goes on: it is the definition's turn, and all lanes stand ready.
 pub turn_goes : {via : Addr → Addr} {s : Session} {i : ℕ} {u : UnderWay s i} {at : Stage} {event : Event} {v : World} (stages : List Stage) (now : Stage) (new : Seat) → Running via s stages → WorldSound v → (t : Took via s i u at event v) → slice_get v.seats i ≡ Some new → GoesOn via (place_of i u.lane) u.line (seen_from via v new) now → Goes via i s (in_world s v) × Running via (in_world s v) (slice_set stages i now)
-turn_goes {via} {s} {i} {u} {at} {event} {v} stages now new running world t new_is goes =
-    (took_goes new now t new_is goes, goes_ready via s stages i u now v new running.staged (took_sound running.sound world t) (others_ready via s stages i u.seat event v t.makes running) new_is goes)
+turn_goes {via} {s} {i} {u} {at} {event} {v} stages now new running world t new_is on =
+    (took_goes new now t new_is on, goes_ready via s stages i u now v new running.staged (took_sound running.sound world t) (others_ready via s stages i u.seat event v t.makes running) new_is on)
 
 -- A turn made an event, which was the line's last.
 pub turn_answers : {via : Addr → Addr} {s : Session} {i : ℕ} {u : UnderWay s i} {at : Stage} {event : Event} {v : World} (stages : List Stage) (new : Seat) (a : Answer) → Running via s stages → WorldSound v → (t : Took via s i u at event v) → slice_get v.seats i ≡ Some new → Over via (place_of i u.lane) u.line (seen_from via v new) a → Answers via i s (answered s v i u.lane a) × Running via (answered s v i u.lane a) (slice_set stages i stage.Fresh)
@@ -122,6 +124,32 @@ running_begun via script first most = record {
       let none : seat ≡ no_line = get_replicate lane_count i no_line seat seat_is in
       rw (none, fresh) (fresh_ready via (begun script first).world i lane);
 }
+
+-- ---- the script stays this one
+
+same_first : (w : World) (i : ℕ) (seat : Seat) (place : Place) (line : Line) (ask : Ask) → (happened w i seat place line ask).first ≡ w.first
+same_first w i seat place line (Table a) = refl
+same_first w i seat place line (Replay key id) = refl
+same_first w i seat place line (Draw key) = refl
+same_first w i seat place line (GiveKey key) = refl
+same_first w i seat place line (GivePeer peer) = refl
+same_first w i seat place line Nil = refl
+same_first w i seat place line NoAsk = refl
+
+-- A turn leaves the script and where its counters began.
+pub turn_is : (via : Addr → Addr) {script : Script} {first : ℕ} {i : ℕ} {s after : Session} → Turn via i s after → IsOf script first s → IsOf script first after
+turn_is via {script} {first} {i} {s} (goes g) of =
+    let u : UnderWay s i = g.under in
+    subst (IsOf script first) (sym g.after_is) (record { first_is = same_first s.world i u.seat (place_of i u.lane) u.line (ask_of via s.world u.seat u.line) ∙ of.first_is; count = of.count; lines = of.lines })
+turn_is via {script} {first} {i} {s} (answers g) of =
+    let u : UnderWay s i = g.under in
+    let same : g.between.first ≡ s.world.first = ap (λ (w : World). w.first) g.between_is ∙ same_first s.world i u.seat (place_of i u.lane) u.line (ask_of via s.world u.seat u.line) in
+    subst (IsOf script first) (sym g.after_is) (is_answered s g.between i u.lane g.answer u.lane_is same of)
+turn_is via {script} {first} {i} {s} (passes p) of = subst (IsOf script first) (sym p.same) of
+
+pub turns_are : (via : Addr → Addr) {script : Script} {first : ℕ} {s after : Session} (is : List ℕ) → Turns via s is after → IsOf script first s → IsOf script first after
+turns_are via {script} {first} {s} [] turns of = subst (IsOf script first) (sym turns) of
+turns_are via (i ∷ is) turns of = turns_are via is turns.2 (turn_is via turns.1 of)
 
 -- ---- the end
 
