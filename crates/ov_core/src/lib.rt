@@ -1,2 +1,10 @@
 //! Lines of many lanes at one table: a world that all lanes share, its turns, and the report of a script.
 #![tactic(auto)]
+
+mod counters;
+mod holding;
+mod mark;
+mod seat;
+mod world;
+
+pub use world::{LANES, World};
