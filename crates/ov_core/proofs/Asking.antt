@@ -1,12 +1,10 @@
 -- What each call of the desk leaves that makes no step of the table: a draw, a replay step, the give-backs.
 use Rattle.std.proofs.Common.{ℕ, zero, suc, ◌≡◌, ◌+◌, ◌-◌, ◌%◌, ◌≤◌, ◌<◌, inl, inr, List, [], ◌∷◌, ◌++◌, length, length-append, get_or, refl, sym, ◌∙◌, ap, subst, arith, Bool, true, false, ◌==◌, ◌||◌, if◌then◌else◌}
-use Rattle.std.specs.Prelude.{map, not, Some, slice_get, slice_set}
-use Rattle.std.specs.List.{list_any}
+use Rattle.std.specs.Prelude.{map, not, Some, slice_get, slice_set, slice_index_or}
 use Rattle.std.proofs.lemmas.Bool.{ne_eqb}
 use Rattle.ov_model.specs.declared.place.Place.{Place}
 use Rattle.ov_model.specs.declared.draw.Drawn.{Drawn}
 use Rattle.ov_model.specs.declared.hold.Given.{Given}
-use Rattle.ov_model.specs.declared.hold.Given.TheVariants as given
 use Rattle.ov_model.specs.declared.hold.Owed.{Owed}
 use Rattle.ov_model.specs.declared.hold.Owed.TheVariants as owed
 use Rattle.ov_model.specs.declared.replay.ReplayEntry.{ReplayEntry}
@@ -15,7 +13,7 @@ use Rattle.ov_model.specs.declared.replay.Verdict.TheVariants as verdict
 use Rattle.ov_model.specs.declared.reply.HoldView.{HoldView}
 use Rattle.ov_model.specs.declared.stand.Stand.{Stand}
 use Rattle.ov_model.specs.declared.stand.Stand.TheVariants as stand
-use Rattle.ov_model.specs.Events.{Event, Step, Judged, Drew, GaveKey, GavePeer, Judgement, judgement_of}
+use Rattle.ov_model.specs.Events.{Step, Judged, Drew, GaveKey, GavePeer, Judgement}
 use Rattle.ov_model.specs.Next.{see, stand_of, judged_as}
 use Rattle.ov_model.specs.Replay.{judged}
 use Rattle.ov_model.specs.Step.{is_there, is_retired}
@@ -24,13 +22,13 @@ use Rattle.ov_path.specs.Desks.{Holding, NoHold, Both, PeerLeft, HoldsKey, LeftP
 use Rattle.ov_replay.specs.History.{History}
 use Rattle.ov_core.specs.declared.mark.Mark.{Mark}
 use Rattle.ov_core.specs.declared.mark.Mark.TheVariants as mark
-use Rattle.ov_core.specs.Worlds.{World, Seat, after_draw, after_replay, after_key, after_peer, next_of, next_after, drawn_of, holds_key, holds_peer, key_holds, peer_holds, given_where, without_key, without_hold, key_given, peer_given, shard_of}
+use Rattle.ov_core.specs.Worlds.{World, Seat, after_draw, after_replay, after_key, after_peer, next_of, next_after, drawn_of, holds_key, holds_peer, key_holds, peer_holds, given_where, without_key, without_hold, key_given, peer_given}
 use Rattle.ov_core.specs.Sounds.{WorldSound}
-use Rattle.ov_core.specs.Seats.{Sitting, Seated, events_of, seen, world_of, steps_at, seat_of, shown_of, histories, is_held, has, has_key, has_peer, owing_if, debt, may_owe, Roomy, Kept, last_if, given_by, is_leaving, after_drawn, after_judged, after_gave_key, after_gave_peer}
-use Rattle.ov_core.proofs.Seats.{length-slice_set, set_case, set_here}
-use Rattle.ov_core.proofs.Marks.{get_own, map_set, map_get, set_set}
-use Rattle.ov_core.proofs.Leaving.{EventDone, Change, below, own_at, seen_at, own_room, pushed, room_push, seats_set, quiet_done, one_owed}
-use Rattle.ov_core.proofs.Awaited.{keeps_draw, draws_below, keeps_replay, keeps_key, keeps_peer}
+use Rattle.ov_core.specs.Seats.{Sitting, Seated, events_of, seen, world_of, steps_at, seat_of, shown_of, histories, is_held, has_key, has_peer, owing_if, owing_list, empty_seat, debt, may_owe, Roomy, Kept, last_if, given_by, after_drawn, after_judged, after_gave_key, after_gave_peer}
+use Rattle.ov_core.proofs.Seats.{length-slice_set, set_case}
+use Rattle.ov_core.proofs.Marks.{set_own, read_own, map_set, set_set}
+use Rattle.ov_core.proofs.Leaving.{EventDone, below, seen_at, own_room, pushed, room_push, seats_set, quiet_done, one_owed, owing_if_is}
+use Rattle.ov_core.proofs.Keeping.{keeps_draw, draws_below, keeps_replay, keeps_key, keeps_peer}
 
 -- ---- a draw
 
@@ -124,7 +122,7 @@ replay_done d shard place key id moment kept held looked shard_is =
     ])
     (record { events = events; hold = refl; owing = refl; room = room_push ss was s m (Judged j) roomy refl refl tt refl roomy.spare_fits (omega arith) })
     refl is
-    (subst WorldSound (sym is) (keeps_replay w d.turn seat place key id moment kept.sound at held looked))
+    (subst WorldSound (sym is) (keeps_replay w d.turn seat place key id moment kept.sound at looked))
 
 -- ---- who holds
 
@@ -269,3 +267,59 @@ left_room d peer kept held =
     let fits : debt was.hold (stand_of (events_of (steps_at d) was.marks)) + length was.owing ≤ was.room = roomy.debt_fits in
     let spare : may_owe was.hold ≤ was.spare = roomy.spare_fits in
     (omega arith, omega arith)
+
+-- ---- at the calls
+
+pub draw_index : {d d0 : Seated} (key : ℕ) → d ≡ d0 → Kept d → HoldsKey (shown_of d0).hold key → key < length d.next
+draw_index {d} key same kept held = draws_below (world_of d) d.turn (seen (steps_at d) (seat_of d)) key kept.sound (seen_at d kept) (subst (λ (x : Seated). HoldsKey (shown_of x).hold key) (sym same) held)
+
+pub draw_read : (d : Seated) (key x : ℕ) → key < length d.next → x ≡ slice_index_or d.next key x → x ≡ get_or d.next key d.first
+draw_read d key x within is = read_own d.next key x d.first within is
+
+pub draw_most : (d : Seated) (key x : ℕ) → Kept d → key < length d.next → x ≡ slice_index_or d.next key x → x ≤ 4294967296
+draw_most d key x kept within is = subst (λ n. n ≤ 4294967296) (sym (draw_read d key x within is)) (kept.sound.most key)
+
+pub read_seat : (d : Seated) (x : Sitting) → Kept d → x ≡ slice_index_or d.seats d.turn x → x ≡ seat_of d
+read_seat d x kept is = read_own d.seats d.turn x empty_seat (below d kept) is
+
+pub key_room_at : {d d0 : Seated} (key : ℕ) (x : Sitting) → d ≡ d0 → Kept d → HoldsKey (shown_of d0).hold key → x ≡ slice_index_or d.seats d.turn x → 0 < x.room
+key_room_at {d} key x same kept held is = subst (λ (s : Sitting). 0 < s.room) (sym (read_seat d x kept is)) (held_room d key kept (subst (λ (x : Seated). HoldsKey (shown_of x).hold key) (sym same) held)).0
+
+pub read_left : (d : Seated) (left x : Sitting) → Kept d → x ≡ slice_index_or (slice_set d.seats d.turn left) d.turn x → x ≡ left
+read_left d left x kept is =
+    read_own (slice_set d.seats d.turn left) d.turn x empty_seat (let long = length-slice_set d.seats d.turn left in let under = below d kept in omega arith) is
+    ∙ set_own d.seats d.turn left empty_seat (below d kept)
+
+pub key_left_room : {d d0 : Seated} (key : ℕ) (x left y : Sitting) → d ≡ d0 → Kept d → HoldsKey (shown_of d0).hold key → x ≡ slice_index_or d.seats d.turn x → left ≡ record x { hold = peer_left x.hold } → y ≡ slice_index_or (slice_set d.seats d.turn left) d.turn y → (0 < y.room) × (0 < y.spare)
+key_left_room {d} key x left y same kept held x_is left_is y_is =
+    subst (λ (s : Sitting). (0 < s.room) × (0 < s.spare)) (sym (read_left d left y kept y_is ∙ left_is))
+    (subst (λ (s : Sitting). (0 < s.room) × (0 < s.spare)) (sym (read_seat d x kept x_is)) (held_room d key kept (subst (λ (z : Seated). HoldsKey (shown_of z).hold key) (sym same) held)))
+
+pub peer_left_room : {d d0 : Seated} (peer : ℕ) (x left y : Sitting) → d ≡ d0 → Kept d → LeftPeer (shown_of d0).hold peer → x ≡ slice_index_or d.seats d.turn x → left ≡ record x { hold = NoHold } → y ≡ slice_index_or (slice_set d.seats d.turn left) d.turn y → (0 < y.room) × (0 < y.spare)
+peer_left_room {d} peer x left y same kept held x_is left_is y_is =
+    subst (λ (s : Sitting). (0 < s.room) × (0 < s.spare)) (sym (read_left d left y kept y_is ∙ left_is))
+    (subst (λ (s : Sitting). (0 < s.room) × (0 < s.spare)) (sym (read_seat d x kept x_is)) (left_room d peer kept (subst (λ (z : Seated). LeftPeer (shown_of z).hold peer) (sym same) held)))
+
+pub gave_key_is : (d : Seated) (key : ℕ) (x left y new : Sitting) (g : Given) (shown : List Sitting) → Kept d → x ≡ slice_index_or d.seats d.turn x → left ≡ record x { hold = peer_left x.hold } → y ≡ slice_index_or (slice_set d.seats d.turn left) d.turn y
+    → new ≡ owing_if (record y { marks = y.marks ++ mark.GaveKey key g ∷ []; room = y.room - 1 }) g (owed.Key key) → shown ≡ slice_set d.seats d.turn left → g ≡ given_by d.table.now shown (owed.Key key)
+    → (g ≡ given_by d.table.now (slice_set d.seats d.turn (record (seat_of d) { hold = peer_left (seat_of d).hold })) (owed.Key key)) × (slice_set (slice_set d.seats d.turn left) d.turn new ≡ (after_gave_key d key).seats)
+gave_key_is d key x left y new g shown kept x_is left_is y_is new_is shown_is g_is =
+    let own : Sitting = record (seat_of d) { hold = peer_left (seat_of d).hold } in
+    let its : left ≡ own = left_is ∙ ap (λ (s : Sitting). record s { hold = peer_left s.hold }) (read_seat d x kept x_is) in
+    let given : g ≡ given_by d.table.now (slice_set d.seats d.turn own) (owed.Key key) = g_is ∙ ap (λ ss. given_by d.table.now ss (owed.Key key)) (shown_is ∙ ap (λ s. slice_set d.seats d.turn s) its) in
+    let made : new ≡ owing_list (record own { marks = own.marks ++ mark.GaveKey key g ∷ []; room = own.room - 1 }) (owed_if g (owed.Key key)) =
+    new_is ∙ owing_if_is (record y { marks = y.marks ++ mark.GaveKey key g ∷ []; room = y.room - 1 }) g (owed.Key key)
+    ∙ ap (λ (s : Sitting). owing_list (record s { marks = s.marks ++ mark.GaveKey key g ∷ []; room = s.room - 1 }) (owed_if g (owed.Key key))) (read_left d left y kept y_is ∙ its) in
+    (given, set_set d.seats d.turn left new ∙ ap (λ s. slice_set d.seats d.turn s) (made ∙ ap (λ x. owing_list (record own { marks = own.marks ++ mark.GaveKey key x ∷ []; room = own.room - 1 }) (owed_if x (owed.Key key))) given))
+
+pub gave_peer_is : (d : Seated) (peer : ℕ) (x left y new : Sitting) (g : Given) (shown : List Sitting) → Kept d → x ≡ slice_index_or d.seats d.turn x → left ≡ record x { hold = NoHold } → y ≡ slice_index_or (slice_set d.seats d.turn left) d.turn y
+    → new ≡ owing_if (record y { marks = y.marks ++ mark.GavePeer peer g ∷ []; room = y.room - 1 }) g (owed.Peer peer) → shown ≡ slice_set d.seats d.turn left → g ≡ given_by d.table.now shown (owed.Peer peer)
+    → (g ≡ given_by d.table.now (slice_set d.seats d.turn (record (seat_of d) { hold = NoHold })) (owed.Peer peer)) × (slice_set (slice_set d.seats d.turn left) d.turn new ≡ (after_gave_peer d peer).seats)
+gave_peer_is d peer x left y new g shown kept x_is left_is y_is new_is shown_is g_is =
+    let own : Sitting = record (seat_of d) { hold = NoHold } in
+    let its : left ≡ own = left_is ∙ ap (λ (s : Sitting). record s { hold = NoHold }) (read_seat d x kept x_is) in
+    let given : g ≡ given_by d.table.now (slice_set d.seats d.turn own) (owed.Peer peer) = g_is ∙ ap (λ ss. given_by d.table.now ss (owed.Peer peer)) (shown_is ∙ ap (λ s. slice_set d.seats d.turn s) its) in
+    let made : new ≡ owing_list (record own { marks = own.marks ++ mark.GavePeer peer g ∷ []; room = own.room - 1 }) (owed_if g (owed.Peer peer)) =
+    new_is ∙ owing_if_is (record y { marks = y.marks ++ mark.GavePeer peer g ∷ []; room = y.room - 1 }) g (owed.Peer peer)
+    ∙ ap (λ (s : Sitting). owing_list (record s { marks = s.marks ++ mark.GavePeer peer g ∷ []; room = s.room - 1 }) (owed_if g (owed.Peer peer))) (read_left d left y kept y_is ∙ its) in
+    (given, set_set d.seats d.turn left new ∙ ap (λ s. slice_set d.seats d.turn s) (made ∙ ap (λ x. owing_list (record own { marks = own.marks ++ mark.GavePeer peer x ∷ []; room = own.room - 1 }) (owed_if x (owed.Peer peer))) given))

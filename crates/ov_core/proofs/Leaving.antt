@@ -1,6 +1,7 @@
 -- The room of a seat, and the seats as an event leaves them.
-use Rattle.std.proofs.Common.{ℕ, ◌≡◌, ◌+◌, ◌-◌, ◌≤◌, ◌<◌, inl, inr, List, [], ◌∷◌, ◌++◌, length, length-append, append-nil, refl, sym, ◌∙◌, ap, subst, arith}
+use Rattle.std.proofs.Common.{ℕ, ◌≡◌, ◌+◌, ◌-◌, ◌≤◌, ◌<◌, ◌%◌, inl, inr, List, [], ◌∷◌, ◌++◌, length, append-nil, refl, sym, ◌∙◌, ap, subst, arith}
 use Rattle.std.specs.Prelude.{map, Some, slice_get, slice_set}
+use Rattle.std.proofs.lemmas.List.{length-map}
 use Rattle.ov_model.specs.declared.hold.Given.{Given}
 use Rattle.ov_model.specs.declared.hold.Given.TheVariants as given
 use Rattle.ov_model.specs.declared.hold.Owed.{Owed}
@@ -12,9 +13,9 @@ use Rattle.ov_path.specs.Desks.{Did, HopsStay, hold_left, owed_left, owed_if}
 use Rattle.ov_replay.specs.History.{History}
 use Rattle.ov_table.specs.Recorded.{Recorded}
 use Rattle.ov_core.specs.declared.mark.Mark.{Mark}
-use Rattle.ov_core.specs.Worlds.{Seat, Makes}
+use Rattle.ov_core.specs.Worlds.{Makes}
 use Rattle.ov_core.specs.Sounds.{WorldSound}
-use Rattle.ov_core.specs.Seats.{Sitting, Seated, Happened, event_of, events_of, seen, world_of, steps_at, seat_of, shown_of, itself, empty_seat, owing_if, owing_list, debt, may_owe, IsWithin, Roomy, Kept}
+use Rattle.ov_core.specs.Seats.{Sitting, Seated, Happened, event_of, events_of, seen, world_of, steps_at, seat_of, shown_of, histories, itself, empty_seat, owing_if, owing_list, debt, may_owe, IsWithin, Roomy, Kept}
 use Rattle.ov_core.proofs.Seats.{length-slice_set, set_case}
 use Rattle.ov_core.proofs.Marks.{get_own, set_own, map_same, map_set, map_get, all_push, events_push}
 
@@ -45,9 +46,9 @@ pub pushed : (ss : List Step) (ms : List Mark) (m : Mark) (e : Event) → event_
 pushed ss ms m e is = events_push ss ms m ∙ ap (λ es. events_of ss ms ++ es) is
 
 -- One mark more, in the room that there is.
-pub room_push : (ss : List Step) (was s : Sitting) (m : Mark) (e : Event) → Roomy ss was → s.marks ≡ was.marks ++ m ∷ [] → event_of ss m ≡ e ∷ [] → IsWithin (length ss) m → s.room ≡ was.room - 1 → may_owe s.hold ≤ s.spare
-    → debt s.hold (see (stand_of (events_of ss was.marks)) e) + length s.owing + 1 ≤ was.room → Roomy ss s
-room_push ss was s m e roomy marks is within room spare fits =
+pub room_push_at : (ss : List Step) (was s : Sitting) (m : Mark) (e : Event) (n : ℕ) → Roomy ss was → s.marks ≡ was.marks ++ m ∷ [] → event_of ss m ≡ e ∷ [] → IsWithin (length ss) m → s.room ≡ n - 1 → may_owe s.hold ≤ s.spare
+    → debt s.hold (see (stand_of (events_of ss was.marks)) e) + length s.owing + 1 ≤ n → Roomy ss s
+room_push_at ss was s m e n roomy marks is within room spare fits =
     let es : List Event = events_of ss was.marks in
     let stand_is : stand_of (events_of ss s.marks) ≡ see (stand_of es) e = rw marks (ap stand_of (pushed ss was.marks m e is) ∙ stand_push es e) in
     let same : debt s.hold (stand_of (events_of ss s.marks)) ≡ debt s.hold (see (stand_of es) e) = ap (λ x. debt s.hold x) stand_is in
@@ -56,6 +57,10 @@ room_push ss was s m e roomy marks is within room spare fits =
       debt_fits = omega arith;
       spare_fits = spare;
     }
+
+pub room_push : (ss : List Step) (was s : Sitting) (m : Mark) (e : Event) → Roomy ss was → s.marks ≡ was.marks ++ m ∷ [] → event_of ss m ≡ e ∷ [] → IsWithin (length ss) m → s.room ≡ was.room - 1 → may_owe s.hold ≤ s.spare
+    → debt s.hold (see (stand_of (events_of ss was.marks)) e) + length s.owing + 1 ≤ was.room → Roomy ss s
+room_push ss was s m e roomy marks is within room spare fits = room_push_at ss was s m e was.room roomy marks is within room spare fits
 
 -- ---- what an event leaves
 
@@ -123,3 +128,21 @@ owing_if_is s given.More o =
 pub one_owed : (g : Given) (o : Owed) → length (owed_if g o) ≤ 1
 one_owed given.Last o = omega arith
 one_owed given.More o = omega arith
+
+-- ---- the same world
+
+pub same_world : (e d : Seated) → e.table ≡ d.table → e.shards ≡ d.shards → e.first ≡ d.first → e.next ≡ d.next → e.seats ≡ d.seats → e.turn ≡ d.turn → e ≡ d
+same_world e d table shards first next seats turn =
+    let F : Recorded → List History → ℕ → List ℕ → List Sitting → ℕ → Seated = λ t s f n x u. record { table = t; shards = s; first = f; next = n; seats = x; turn = u } in
+    ap (λ t. F t e.shards e.first e.next e.seats e.turn) table
+    ∙ ap (λ s. F d.table s e.first e.next e.seats e.turn) shards
+    ∙ ap (λ f. F d.table d.shards f e.next e.seats e.turn) first
+    ∙ ap (λ n. F d.table d.shards d.first n e.seats e.turn) next
+    ∙ ap (λ x. F d.table d.shards d.first d.next x e.turn) seats
+    ∙ ap (λ u. F d.table d.shards d.first d.next d.seats u) turn
+
+pub shard_below : (d : Seated) (key : ℕ) → Kept d → key % 8 < length d.shards
+shard_below d key kept =
+    let eight : length (histories d.shards) ≡ 8 = kept.sound.eight in
+    let same : length (histories d.shards) ≡ length d.shards = length-map d.shards (λ (s : History). s.entries) in
+    omega arith

@@ -2,6 +2,14 @@
 pub mod Seats
 -- What a lane's own steps say of it after an event of any lane.
 pub mod Moving
+-- Marks and their events, and a list of seats in which one changed.
+pub mod Marks
+-- The room of a seat, and the seats as an event leaves them.
+pub mod Leaving
+-- What each call of the desk leaves that makes no step of the table: a draw, a replay step, the give-backs.
+pub mod Asking
+-- What may be asked of the table: what is held stands there, and what is owed is on its way out.
+pub mod Mays
 -- A script that runs stays sound with each event of a lane and with each answer.
 pub mod Turning
 -- An event that a line asked for is the event of the definition.
@@ -35,12 +43,6 @@ pub mod Happening
 pub mod Taking
 -- Each lane's line stands ready while the lanes take their turns, from the beginning to the end.
 pub mod Running
--- Marks and their events, and a list of seats in which one changed.
-pub mod Marks
--- The room of a seat, and the seats as an event leaves them.
-pub mod Leaving
--- What each call of the desk leaves that makes no step of the table: a draw, a replay step, the give-backs.
-pub mod Asking
 -- What the world's own proofs give of each event.
 pub mod Awaited
 -- A turn at the world as it is kept is a turn of the definition.
@@ -51,3 +53,11 @@ pub mod Dealing
 pub mod Coursing
 -- What a turn of a walk in the world makes of its course.
 pub mod Stepped
+-- The world before any turn, and when a line is over.
+pub mod Newest
+-- What the steps of the table answer: what a look-up finds, and how much a command takes and removes.
+pub mod Acts
+-- The releases of what a step took and removed and nobody holds.
+pub mod Joining
+-- What a step of the table leaves: any that a line may ask for, and a release.
+pub mod Calling

@@ -1,6 +1,6 @@
 -- Marks and their events, and a list of seats in which one changed.
-use Rattle.std.proofs.Common.{ℕ, ◌≡◌, ◌≢◌, ◌+◌, ◌≤◌, ◌<◌, ◌⊎◌, inl, inr, zero, suc, List, [], ◌∷◌, ◌++◌, length, get_or, append-nil, append_assoc, refl, sym, ◌∙◌, ap, subst, arith}
-use Rattle.std.specs.Prelude.{Option, Some, map, slice_get, slice_set, slice_index_or}
+use Rattle.std.proofs.Common.{ℕ, ◌≡◌, ◌≤◌, ◌<◌, zero, suc, List, [], ◌∷◌, ◌++◌, length, get_or, append-nil, append_assoc, refl, sym, ◌∙◌, ap, arith}
+use Rattle.std.specs.Prelude.{Some, map, slice_get, slice_set, slice_index_or}
 use Rattle.std.specs.List.{AllByRecursion}
 use Rattle.ov_model.specs.declared.place.Place.{Place}
 use Rattle.ov_model.specs.declared.act.Call.{Call}
@@ -8,7 +8,7 @@ use Rattle.ov_model.specs.declared.entry.Entry.{Entry}
 use Rattle.ov_model.specs.Tables.{Table, empty_table}
 use Rattle.ov_model.specs.Step.{step}
 use Rattle.ov_model.specs.Runs.{last_table}
-use Rattle.ov_model.specs.Events.{Event, Step, steps_of, steps_after}
+use Rattle.ov_model.specs.Events.{Step, steps_of, steps_after}
 use Rattle.ov_model.proofs.Going.{steps_after-append}
 use Rattle.ov_table.specs.Recorded.{Recorded, stepped, entry_of}
 use Rattle.ov_core.specs.declared.mark.Mark.{Mark}

@@ -28,7 +28,7 @@ use Rattle.ov_core.specs.declared.holding.Hold.{Hold}
 use Rattle.ov_core.specs.declared.holding.Hold.TheVariants as hold
 use Rattle.ov_core.specs.declared.mark.Mark.{Mark}
 use Rattle.ov_core.specs.declared.mark.Mark.TheVariants as mark
-use Rattle.ov_core.specs.Worlds.{Seat, World, seen_from, Happened as HappenedThere, lane_count, drawn_of, next_after, given_where}
+use Rattle.ov_core.specs.Worlds.{Seat, World, seen_from, Happened as HappenedThere, lane_count, drawn_of, next_after}
 use Rattle.ov_core.specs.Sounds.{WorldSound}
 
 -- ---- a seat
@@ -204,17 +204,22 @@ begins_line _ = false
 abbrev pub seat_begun : Act → Sitting → Sitting
 seat_begun a s = if begins_line a then with_room s else s
 
--- After a step of the table: the counter of a key that was made; of the lane its mark, its hold, and what it
--- owes.
+-- The seat after a step of the table: its mark, what a look-up holds, and what the lane owes.
+abbrev pub seat_called : Sitting → Act → Reply → (entry : ℕ) → (joined : List Owed) → Sitting
+seat_called s a r entry joined = record {
+  marks = s.marks ++ mark.Stepped entry ∷ [];
+  room = (seat_begun a s).room - 1;
+  hold = held_after s.hold a r;
+  owing = s.owing ++ joined;
+  spare = (seat_begun a s).spare - length joined;
+}
+
+-- After a step of the table: the counter of a key that was made, and the seat of the lane.
 abbrev pub after_call : Seated → Place → Call → Reply → Seated
 after_call d place call r = record d {
   table = stepped d.table place call;
   next = d.next ++ map (λ _. d.first) (key_made_by call.act r);
-  seats = slice_set d.seats d.turn (let s : Sitting = owing_list (seat_begun call.act (seat_of d)) (unheld d.seats (leaving (step d.table.now call).taken (removed r))) in record s {
-    marks = s.marks ++ mark.Stepped (length d.table.journal) ∷ [];
-    room = s.room - 1;
-    hold = held_after s.hold call.act r;
-  });
+  seats = slice_set d.seats d.turn (seat_called (seat_of d) call.act r (length d.table.journal) (unheld d.seats (leaving (step d.table.now call).taken (removed r))));
 }
 
 -- After a replay step, which the shard of the key has made.

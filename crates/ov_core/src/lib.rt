@@ -2,13 +2,9 @@
 #![tactic(auto)]
 
 mod counters;
-mod course;
 mod holding;
 mod mark;
 mod seat;
-mod session;
-#[cfg(test)]
-mod tests;
 mod world;
 
-pub use session::{run_schedule, run_serially};
+pub use world::{LANES, World};

@@ -63,14 +63,7 @@ impl Seat {
         }
     }
 
-    /// What is held.
-    pub fn hold(&self) -> Hold
-        ensures { spec.holding result ≡ self.now.hold }
-    {
-        self.hold
-    }
-
-    /// Whether the peer and the key with its serial are held.
+    /// Whether the key with a serial is held.
     pub fn holds_key(&self, key: u32) -> bool
         ensures { result ≡ spec.has_key key self.now.hold }
     {
@@ -98,7 +91,7 @@ impl Seat {
     }
 
     /// Takes room for a whole line. After Memory the line is as it was.
-    pub fn make_room(&mut self) -> Result<(), Memory>
+    fn make_room(&mut self) -> Result<(), Memory>
         ensures ok { OnOk result (self.new ≡ record self.old { room = 7; spare = 3 }) }
         ensures err { OnErr result (self.new ≡ self.old) }
     {
@@ -106,6 +99,17 @@ impl Seat {
         self.owing.reserve(MOST_OWED)?;
         self.room = MOST_MARKS;
         self.spare = MOST_OWED;
+        Ok(())
+    }
+
+    /// Takes the room where a step begins a line. After Memory the line is as it was.
+    pub fn begin(&mut self, act: &Act) -> Result<(), Memory>
+        ensures ok { OnOk result (self.new ≡ spec.seat_begun act.now self.old) }
+        ensures err { OnErr result (self.new ≡ self.old) }
+    {
+        if begins_line(act) {
+            self.make_room()?;
+        }
         Ok(())
     }
 
@@ -238,5 +242,19 @@ impl Seat {
         ensures { self.new ≡ record self.old { marks = [] } }
     {
         self.marks.clear();
+    }
+}
+
+/// Whether a line begins with a step: the others come while it holds.
+fn begins_line(act: &Act) -> bool
+    ensures { result ≡ spec.begins_line act.now }
+{
+    match act {
+        Act::Do(_) | Act::TxLook(_) | Act::RxLook { .. } => true,
+        Act::Sent { .. }
+        | Act::Settle { .. }
+        | Act::Spend { .. }
+        | Act::Released(_)
+        | Act::KeyReleased(_) => false,
     }
 }

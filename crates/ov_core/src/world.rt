@@ -10,6 +10,7 @@ ghost use Rattle.ov_model.specs.Path.{removed};
 ghost use Rattle.ov_model.specs.Replay.{ShardJudges};
 ghost use Rattle.ov_core.specs.Seats.{Seated, Kept, new_seated, histories};
 ghost use Rattle.ov_core.specs.Seats as spec;
+ghost use Rattle.ov_path.specs.Desks.{NoHold};
 
 use crate::counters::{count_key, drawn, following};
 use crate::mark::Judged;
@@ -94,6 +95,8 @@ impl World {
 
     /// The line of the lane that has its turn is over.
     pub fn end_line(&mut self)
+        requires free { (spec.shown_of self.old).hold ≡ NoHold }
+        requires owes { (spec.shown_of self.old).owing ≡ [] }
         ensures { self.new ≡ spec.after_line self.old }
     {
         self.seats[self.turn].clear();
@@ -123,10 +126,8 @@ impl Desk for World {
     ghost does = { λ d event e. Happened d event e };
 
     fn table(&mut self, place: Place, call: &Call) -> Result<Reply, Memory> {
-        if begins_line(&call.act) {
-            self.next.reserve(1)?;
-            self.seats[self.turn].make_room()?;
-        }
+        self.next.reserve(1)?;
+        self.seats[self.turn].begin(&call.act)?;
         let entry = self.table.journal().len();
         let reply = self.table.step(place, call)?;
         count_key(&mut self.next, self.first, &call.act, &reply);
@@ -209,20 +210,6 @@ fn last_of(table: &Table, seats: &[Seat], owed: Owed) -> Given
         Given::Last
     } else {
         Given::More
-    }
-}
-
-/// Whether a line begins with a step: the others come while it holds.
-fn begins_line(act: &Act) -> bool
-    ensures { result ≡ spec.begins_line act.now }
-{
-    match act {
-        Act::Do(_) | Act::TxLook(_) | Act::RxLook { .. } => true,
-        Act::Sent { .. }
-        | Act::Settle { .. }
-        | Act::Spend { .. }
-        | Act::Released(_)
-        | Act::KeyReleased(_) => false,
     }
 }
 
