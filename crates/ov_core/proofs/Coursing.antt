@@ -1,15 +1,16 @@
 -- The courses of all lanes stay a script that runs, whichever of them takes a turn or runs on.
-use Rattle.std.proofs.Common.{ℕ, ◌≡◌, ◌≢◌, ◌≤◌, zero, suc, List, [], ◌∷◌, ◌++◌, length, refl, sym, ◌∙◌, ap, subst, inl, inr}
+use Rattle.std.proofs.Common.{◌+◌, ◌<◌, arith, length-append, ℕ, ◌≡◌, ◌≢◌, ◌≤◌, zero, suc, List, [], ◌∷◌, ◌++◌, length, refl, sym, ◌∙◌, ap, subst, inl, inr}
 use Rattle.std.specs.Prelude.{map, replicate, Some, slice_get, slice_set}
 use Rattle.ov_path.specs.declared.stage.Stage.{Stage}
 use Rattle.ov_core.specs.declared.course.Turn.{Turn as Did}
 use Rattle.ov_core.specs.declared.course.Turn.TheVariants as did
 use Rattle.ov_core.specs.Worlds.{World}
 use Rattle.ov_core.specs.Seats.{Seated, itself, world_of}
-use Rattle.ov_core.specs.Sessions.{Lane, Session, Goes, Answers, Turn, goes, answers, passes, Turns, RunsLine}
+use Rattle.ov_core.specs.Sessions.{Lane, Session, Goes, Answers, Turn, goes, answers, passes, Turns, in_order, RunsLine}
 use Rattle.ov_core.specs.Ready.{Running}
 use Rattle.ov_core.specs.Courses.{Coursed, Standing, OnCourse, Passed, Went, WasAnswered, Turned, lane_of, session_at}
-use Rattle.ov_core.specs.Scripts.{lanes_of, standing_of, script_at, standing_then, AreCourses, LineRan, LinesRan}
+use Rattle.ov_core.specs.Scripts.{lanes_of, standing_of, script_at, standing_then, AreCourses, LineRan, LinesRan, TookTurns, RanOut}
+use Rattle.ov_core.proofs.Taking.{turns_append, turns_more, in_order_more}
 use Rattle.ov_core.proofs.Seats.{length-slice_set, same_some, set_case}
 use Rattle.ov_core.proofs.Marks.{map_set, map_get}
 
@@ -103,3 +104,37 @@ pub turned : (d e : Seated) (courses : List Coursed) (i : ℕ) (c x : Coursed) (
 turned d e courses i c x did.Passed are at t = passed_turn d e courses i c x are at t
 turned d e courses i c x did.Going are at t = went_turn d e courses i c x are at t
 turned d e courses i c x did.Answered are at t = answered_turn d e courses i c x are at t
+
+-- ---- turns in a row
+
+-- No turn yet.
+pub took_none : (d : Seated) (courses : List Coursed) → AreCourses d courses → TookTurns d d courses courses []
+took_none d courses are = record { turns = refl; are = are }
+
+-- One lane more took a turn.
+pub took_more : (d e f : Seated) (before mid : List Coursed) (lanes : List ℕ) (i : ℕ) (c x : Coursed) (r : Did) → TookTurns d e before mid lanes → slice_get mid i ≡ Some c → ((all : Standing) → OnCourse e all c → Turned e f all c x r) → TookTurns d f before (slice_set mid i x) (lanes ++ i ∷ [])
+took_more d e f before mid lanes i c x r took at did_so =
+    let step = turned e f mid i c x r took.are at (did_so (standing_of mid) (on_course e mid i c took.are at)) in
+    record { turns = turns_more itself (script_at d before) (script_at e mid) (script_at f (slice_set mid i x)) lanes i took.turns step.0; are = step.1 }
+
+-- ---- lanes that run to their end, in the order of their numbers
+
+pub out_none : (d : Seated) (courses : List Coursed) → AreCourses d courses → RanOut d d courses courses 0
+out_none d courses are = record { more = []; long = refl; turns = refl; are = are; done = λ i c below at. absurd (omega arith) }
+
+-- The next lane ran to its end.
+pub out_more : (d e f : Seated) (before mid : List Coursed) (n : ℕ) (c x : Coursed) → RanOut d e before mid n → slice_get mid n ≡ Some c → ((all : Standing) → OnCourse e all c → LinesRan e f all c x) → RanOut d f before (slice_set mid n x) (n + 1)
+out_more d e f before mid n c x out at ran_so =
+    let ran : LinesRan e f (standing_of mid) c x = ran_so (standing_of mid) (on_course e mid n c out.are at) in
+    let step = lines_ran e f mid n c x out.are at ran in
+    let order : in_order 0 (out.more ++ ran.count ∷ []) ≡ in_order 0 out.more ++ replicate ran.count n = in_order_more 0 out.more ran.count ∙ ap (λ k. in_order 0 out.more ++ replicate ran.count k) (let last : 0 + length out.more ≡ n = omega (arith, out.long) in last) in
+    record {
+      more = out.more ++ ran.count ∷ [];
+      long = length-append out.more (ran.count ∷ []) ∙ ap (λ k. k + 1) out.long;
+      turns = subst (λ is. Turns itself (script_at d before) is (script_at f (slice_set mid n x))) (sym order) (turns_append itself (script_at d before) (script_at e mid) (script_at f (slice_set mid n x)) (in_order 0 out.more) (replicate ran.count n) out.turns step.0);
+      are = step.1;
+      done = λ i y below y_is. elim (set_case mid n i x y y_is) [
+        | inl here ↦ subst (λ (z : Coursed). length z.lines ≤ length z.answers) (sym here.1) ran.done
+        | inr there ↦ out.done i y (let other : i ≢ n = there.0 in omega arith) there.1
+      ];
+    }

@@ -43,8 +43,6 @@ pub mod Happening
 pub mod Taking
 -- Each lane's line stands ready while the lanes take their turns, from the beginning to the end.
 pub mod Running
--- What the world's own proofs give of each event.
-pub mod Awaited
 -- A turn at the world as it is kept is a turn of the definition.
 pub mod Bridging
 -- The lanes once one line more was dealt to its lane.
@@ -61,3 +59,7 @@ pub mod Acts
 pub mod Joining
 -- What a step of the table leaves: any that a line may ask for, and a release.
 pub mod Calling
+-- The report of a script that ran by a schedule.
+pub mod Scheduling
+-- The report of a script whose lines ran one after the other.
+pub mod Serially

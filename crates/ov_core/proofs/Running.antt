@@ -159,7 +159,7 @@ module _ {X : Type 0} where
   all_members P (x ∷ xs) each = (each 0 x refl, all_members P xs (λ i y at. each (suc i) y at))
 
   -- A list has a member at each place below its length.
-  member_at : (xs : List X) (i : ℕ) → i < length xs → (x : X) × (slice_get xs i ≡ Some x)
+  pub member_at : (xs : List X) (i : ℕ) → i < length xs → (x : X) × (slice_get xs i ≡ Some x)
   member_at [] i below = absurd (omega arith)
   member_at (x ∷ xs) zero below = (x, refl)
   member_at (x ∷ xs) (suc i) below = member_at xs i (omega arith)

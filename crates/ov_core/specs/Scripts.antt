@@ -1,12 +1,12 @@
 -- The courses of all lanes: a script that runs in a world.
-use Rattle.std.specs.Prelude.{ℕ, ◌≡◌, ◌+◌, ◌≤◌, List, [], length, map, replicate, Some, slice_get, slice_set}
+use Rattle.std.specs.Prelude.{ℕ, ◌≡◌, ◌+◌, ◌≤◌, ◌<◌, List, [], length, map, replicate, Some, slice_get, slice_set}
 use Rattle.std.specs.List.{range_with_len}
 use Rattle.ov_model.specs.declared.line.Line.{Line}
 use Rattle.ov_model.specs.Legal.{lane_lines}
 use Rattle.ov_path.specs.declared.stage.Stage.TheVariants as stage
 use Rattle.ov_core.specs.Worlds.{lane_count}
 use Rattle.ov_core.specs.Seats.{Seated, itself}
-use Rattle.ov_core.specs.Sessions.{Lane, Session, Turns, RunsLine}
+use Rattle.ov_core.specs.Sessions.{Lane, Session, Turns, in_order, RunsLine, RunsLines}
 use Rattle.ov_core.specs.Ready.{Running}
 use Rattle.ov_core.specs.Courses.{Coursed, Standing, OnCourse, lane_of, session_at}
 
@@ -56,3 +56,24 @@ course_of lines i = record { lane = i; lines = lane_lines lines i; answers = [];
 -- All lanes with the lines of a script that name them.
 abbrev pub dealt : List Line → List Coursed
 dealt lines = map (course_of lines) (range_with_len 0 lane_count)
+
+-- The lanes of a list took a turn each, in its order.
+pub record TookTurns (d e : Seated) (before after : List Coursed) (lanes : List ℕ) : Type 0 where
+  pub turns : Turns itself (script_at d before) lanes (script_at e after)
+  pub are : AreCourses e after
+
+-- The first lanes ran to their end, in the order of their numbers, by so many turns each.
+pub record RanOut (d e : Seated) (before after : List Coursed) (n : ℕ) : Type 0 where
+  pub more : List ℕ
+  pub long : length more ≡ n
+  pub turns : Turns itself (script_at d before) (in_order 0 more) (script_at e after)
+  pub are : AreCourses e after
+  pub done : (i : ℕ) (c : Coursed) → i < n → slice_get after i ≡ Some c → length c.lines ≤ length c.answers
+
+-- The first lines of a script ran to their end, one after the other. Each lane has its lines of the script, and
+-- answers to the first of them.
+pub record RanLines (all : List Line) (d e : Seated) (before after : List Coursed) (lines : List Line) : Type 0 where
+  pub runs : RunsLines itself (script_at d before) lines (script_at e after)
+  pub are : AreCourses e after
+  pub lines_are : (i : ℕ) (c : Coursed) → slice_get after i ≡ Some c → c.lines ≡ lane_lines all i
+  pub answered : (i : ℕ) (c : Coursed) → slice_get after i ≡ Some c → length c.answers ≡ length (lane_lines lines i)
