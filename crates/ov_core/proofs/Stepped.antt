@@ -1,19 +1,17 @@
 -- What a turn of a walk in the world makes of its course.
-use Rattle.std.proofs.Common.{ℕ, arith, true, nat_lt, get_or, ◌≡◌, ◌<◌, List, [], ◌∷◌, ◌++◌, length, refl, sym, ◌∙◌, ap, subst}
+use Rattle.std.proofs.Common.{ℕ, arith, true, nat_lt, get_or, ◌≡◌, List, [], ◌∷◌, ◌++◌, length, refl, sym, ◌∙◌, ap, subst}
 use Rattle.std.specs.Prelude.{Some, slice_get, slice_set}
 use Rattle.std.proofs.lemmas.Bool.Decides.{nat_tests}
 use Rattle.std.proofs.lemmas.Option.{slice_get-get_or}
 use Rattle.ov_model.specs.declared.answer.Answer.{Answer}
 use Rattle.ov_model.specs.declared.line.Line.{Line}
 use Rattle.ov_model.specs.declared.place.Place.{Place}
-use Rattle.ov_path.specs.declared.stage.Stage.{Stage}
 use Rattle.ov_path.specs.declared.stage.Stage.TheVariants as stage
 use Rattle.ov_path.specs.declared.walk.Walk.{Walk}
 use Rattle.ov_path.specs.declared.walk.Progress.{Progress}
 use Rattle.ov_path.specs.declared.walk.Progress.TheVariants.{More, Answered}
 use Rattle.ov_path.specs.Walks.{GoesOn, Over, Made, MadeOrNone, MadeBy, Progressed}
-use Rattle.ov_core.specs.Worlds.{Seat}
-use Rattle.ov_core.specs.Sessions.{Lane, place_of, Goes, Answers}
+use Rattle.ov_core.specs.Sessions.{Goes, Answers}
 use Rattle.ov_core.specs.Ready.{Running}
 use Rattle.ov_core.specs.Seats.{Seated, Kept, Happened, itself, world_of, shown_of, after_line}
 use Rattle.ov_core.specs.Courses.{Coursed, IsCourse, Standing, OnCourse, lane_of, session_at, Went, WasAnswered}
@@ -36,9 +34,9 @@ pub went_at : (d e : Seated) (all : Standing) (c : Coursed) (walk : Walk) (line 
     → Went d e all c (record c { walk = walk })
 went_at d e all c walk line kept kept_e turn is on line_is m goes =
     let both = turn_more d e all.lanes all.stages (lane_of c) line c.walk.stage walk.stage kept kept_e on.running
-        (subst (λ n. slice_get all.lanes n ≡ Some (lane_of c)) (sym turn) on.lane_is) line_is (subst (λ n. slice_get all.stages n ≡ Some c.walk.stage) (sym turn) on.stage_is)
-        (subst (λ (p : Place). Made shown_of Happened itself p line d e) (is.placed ∙ ap (λ n. record { lane = n; line = length c.answers }) (sym turn)) m)
-        (subst (λ (p : Place). GoesOn itself p line (shown_of e) walk.stage) (is.placed ∙ ap (λ n. record { lane = n; line = length c.answers }) (sym turn)) goes) in
+    (subst (λ n. slice_get all.lanes n ≡ Some (lane_of c)) (sym turn) on.lane_is) line_is (subst (λ n. slice_get all.stages n ≡ Some c.walk.stage) (sym turn) on.stage_is)
+    (subst (λ (p : Place). Made shown_of Happened itself p line d e) (is.placed ∙ ap (λ n. record { lane = n; line = length c.answers }) (sym turn)) m)
+    (subst (λ (p : Place). GoesOn itself p line (shown_of e) walk.stage) (is.placed ∙ ap (λ n. record { lane = n; line = length c.answers }) (sym turn)) goes) in
     record {
       goes = subst (λ n. Goes itself n (session_at d all.lanes) (session_at e all.lanes)) turn both.0;
       course = refl;
@@ -55,9 +53,9 @@ pub answered_at : (d e : Seated) (all : Standing) (c : Coursed) (a : Answer) (li
 answered_at d e all c a line kept kept_e turn is on line_is m over =
     let x : Coursed = record { lane = c.lane; lines = c.lines; answers = c.answers ++ a ∷ []; walk = record { place = record { lane = c.lane; line = length (c.answers ++ a ∷ []) }; stage = stage.Fresh } } in
     let both = turn_over d e all.lanes all.stages (lane_of c) line c.walk.stage a kept kept_e on.running
-        (subst (λ n. slice_get all.lanes n ≡ Some (lane_of c)) (sym turn) on.lane_is) line_is (subst (λ n. slice_get all.stages n ≡ Some c.walk.stage) (sym turn) on.stage_is)
-        (subst (λ (p : Place). MadeOrNone shown_of Happened itself p line d e) (is.placed ∙ ap (λ n. record { lane = n; line = length c.answers }) (sym turn)) m)
-        (subst (λ (p : Place). Over itself p line (shown_of e) a) (is.placed ∙ ap (λ n. record { lane = n; line = length c.answers }) (sym turn)) over) in
+    (subst (λ n. slice_get all.lanes n ≡ Some (lane_of c)) (sym turn) on.lane_is) line_is (subst (λ n. slice_get all.stages n ≡ Some c.walk.stage) (sym turn) on.stage_is)
+    (subst (λ (p : Place). MadeOrNone shown_of Happened itself p line d e) (is.placed ∙ ap (λ n. record { lane = n; line = length c.answers }) (sym turn)) m)
+    (subst (λ (p : Place). Over itself p line (shown_of e) a) (is.placed ∙ ap (λ n. record { lane = n; line = length c.answers }) (sym turn)) over) in
     record {
       answer = a;
       answers = subst (λ n. Answers itself n (session_at d all.lanes) (session_at (after_line e) (slice_set all.lanes n (lane_of x)))) turn both.0;
@@ -111,17 +109,17 @@ pub more_by : (d f e : Seated) (n : ℕ) (all : Standing) (c y : Coursed) (walk 
     → MadeBy shown_of Happened itself y.walk.place line p f e → Progressed itself y.walk.place line (shown_of e) walk.stage p → Went d e all c (record y { walk = walk })
 more_by d f e n all c y walk line p more given is kept kept_e course lane on line_is m goes =
     went_by d f e n all c y walk line given is kept kept_e course lane on line_is
-        (subst (λ (q : Progress). MadeBy shown_of Happened itself y.walk.place line q f e) more m)
-        (subst (λ (q : Progress). Progressed itself y.walk.place line (shown_of e) walk.stage q) more goes)
+    (subst (λ (q : Progress). MadeBy shown_of Happened itself y.walk.place line q f e) more m)
+    (subst (λ (q : Progress). Progressed itself y.walk.place line (shown_of e) walk.stage q) more goes)
 
 pub over_by : (d f e g : Seated) (n : ℕ) (all : Standing) (c y : Coursed) (walk next : Walk) (a : Answer) (answers : List Answer) (line : Line) (p : Progress) → p ≡ Answered a → g ≡ after_line e → answers ≡ y.answers ++ a ∷ [] → next ≡ record { place = record { lane = y.lane; line = length answers }; stage = stage.Fresh }
     → f ≡ record d { turn = n } → c ≡ y → Kept f → Kept e → IsCourse y → n ≡ y.lane → OnCourse d all c → slice_get y.lines (length y.answers) ≡ Some line
     → MadeBy shown_of Happened itself y.walk.place line p f e → Progressed itself y.walk.place line (shown_of e) walk.stage p → WasAnswered d g all c (record { lane = y.lane; lines = y.lines; answers = answers; walk = next })
 over_by d f e g n all c y walk next a answers line p over after more its given is kept kept_e course lane on line_is m goes =
     let done = answered_by d f e n all c y a line given is kept kept_e course lane on line_is
-        (subst (λ (q : Progress). MadeBy shown_of Happened itself y.walk.place line q f e) over m)
-        (subst (λ (q : Progress). Progressed itself y.walk.place line (shown_of e) walk.stage q) over goes) in
+    (subst (λ (q : Progress). MadeBy shown_of Happened itself y.walk.place line q f e) over m)
+    (subst (λ (q : Progress). Progressed itself y.walk.place line (shown_of e) walk.stage q) over goes) in
     let walked : WasAnswered d (after_line e) all c (record { lane = y.lane; lines = y.lines; answers = answers; walk = record { place = record { lane = y.lane; line = length answers }; stage = stage.Fresh } }) =
-        subst (λ (xs : List Answer). WasAnswered d (after_line e) all c (record { lane = y.lane; lines = y.lines; answers = xs; walk = record { place = record { lane = y.lane; line = length xs }; stage = stage.Fresh } })) (sym more) done in
+    subst (λ (xs : List Answer). WasAnswered d (after_line e) all c (record { lane = y.lane; lines = y.lines; answers = xs; walk = record { place = record { lane = y.lane; line = length xs }; stage = stage.Fresh } })) (sym more) done in
     subst (λ (h : Seated). WasAnswered d h all c (record { lane = y.lane; lines = y.lines; answers = answers; walk = next })) (sym after)
-        (subst (λ (w : Walk). WasAnswered d (after_line e) all c (record { lane = y.lane; lines = y.lines; answers = answers; walk = w })) (sym its) walked)
+    (subst (λ (w : Walk). WasAnswered d (after_line e) all c (record { lane = y.lane; lines = y.lines; answers = answers; walk = w })) (sym its) walked)

@@ -7,9 +7,9 @@ ghost use Rattle.ov_path.specs.Walks.{GoesOn, Progressed, MadeBy};
 ghost use Rattle.ov_core.specs.Seats.{Happened, Kept, itself, shown_of};
 ghost use Rattle.ov_core.specs.Courses.{SomeCourse, TurnedIn};
 
-use crate::world::{LANES, World};
-use ov_base::{ListOf, Memory};
-use ov_model::{Answer, LaneLog, Line, Place};
+use crate::world::World;
+use ov_base::Memory;
+use ov_model::{Answer, Line, Place};
 use ov_path::{Progress, Walk};
 use std::alloc::Global;
 use std::marker::Model;
@@ -58,8 +58,15 @@ impl Course {
     /// A lane without lines.
     pub fn new(alloc: Global, lane: u32) -> Course
         requires { lane < 64 }
-        ensures { result ≡ record { lane = lane; lines = []; answers = []; walk = record {
-            place = record { lane = lane; line = 0 }; stage = stage.Fresh } } }
+        ensures { result ≡ record {
+          lane = lane;
+          lines = [];
+          answers = [];
+          walk = record {
+            place = record { lane = lane; line = 0 };
+            stage = stage.Fresh;
+          };
+        } }
     {
         Course {
             lane,
@@ -102,35 +109,6 @@ impl Course {
             }
         }
     }
-
-    /// Runs the lane's line to its end.
-    pub fn run_line(&mut self, alloc: Global, world: &mut World) -> Result<Turn, Memory> {
-        loop {
-            match self.turn(alloc, world)? {
-                Turn::Going => (),
-                over => return Ok(over),
-            }
-        }
-    }
-
-    /// Runs the lane's lines to their end.
-    pub fn run_out(&mut self, alloc: Global, world: &mut World) -> Result<(), Memory> {
-        while self.answers.len() < self.lines.len() {
-            self.run_line(alloc, world)?;
-        }
-        Ok(())
-    }
-
-    /// The lane's log.
-    pub fn finish(self, alloc: Global) -> LaneLog {
-        let Course { lines, answers, .. } = self;
-        LaneLog {
-            lines: ListOf::of_vec(lines),
-            answers: ListOf::of_vec(answers),
-            recorded: 0,
-            unsent: ListOf::new(alloc),
-        }
-    }
 }
 
 /// Makes one turn of a line, for the lane that has its turn.
@@ -151,22 +129,4 @@ fn take_turn(
     let progress = walk.turn(alloc, world, line)?;
     world.keeps();
     Ok(progress)
-}
-
-/// The courses of all lanes, without lines.
-pub fn new_courses(alloc: Global) -> Result<Vec<Course>, Memory> {
-    let mut courses = Vec::new(alloc);
-    for lane in 0..LANES {
-        courses.push(Course::new(alloc, lane))?;
-    }
-    Ok(courses)
-}
-
-/// The logs of all lanes.
-pub fn logs_of(alloc: Global, courses: Vec<Course>) -> Result<ListOf<LaneLog>, Memory> {
-    let mut logs = Vec::new(alloc);
-    for course in courses {
-        logs.push(course.finish(alloc))?;
-    }
-    Ok(ListOf::of_vec(logs))
 }

@@ -8,4 +8,5 @@ mod mark;
 mod seat;
 mod world;
 
+pub use course::{Course, Turn};
 pub use world::{LANES, World};

@@ -1,8 +1,7 @@
-use Rattle.std.proofs.Common.{ℕ, ◌≡◌, ◌∙◌, refl, ap, sym, subst}
+use Rattle.std.proofs.Common.{ℕ, ◌∙◌, refl, ap, sym}
 use Rattle.std.specs.Prelude.{List, length}
 use Rattle.ov_model.specs.declared.answer.Answer.{Answer}
 use Rattle.ov_core.specs.Seats.{Seated}
-use Rattle.ov_core.specs.Courses.{Coursed, OnCourse}
 use Rattle.ov_path.specs.declared.stage.Stage.TheVariants as stage
 use Rattle.ov_core.proofs.Stepped.{on_turn, goes_at, more_by, over_by, line_got}
 use Rattle.ov_core.proofs.course.Course.turn.Goals as goal
