@@ -1,12 +1,11 @@
 -- The courses of all lanes stay a script that runs, whichever of them takes a turn or runs on.
-use Rattle.std.proofs.Common.{◌+◌, ◌<◌, arith, length-append, ℕ, ◌≡◌, ◌≢◌, ◌≤◌, zero, suc, List, [], ◌∷◌, ◌++◌, length, refl, sym, ◌∙◌, ap, subst, inl, inr}
-use Rattle.std.specs.Prelude.{map, replicate, Some, slice_get, slice_set}
-use Rattle.ov_path.specs.declared.stage.Stage.{Stage}
+use Rattle.std.proofs.Common.{◌+◌, arith, length-append, ℕ, ◌≡◌, ◌≢◌, ◌≤◌, zero, suc, List, [], ◌∷◌, ◌++◌, length, refl, sym, ◌∙◌, ap, subst, inl, inr}
+use Rattle.std.specs.Prelude.{replicate, Some, slice_get, slice_set}
 use Rattle.ov_core.specs.declared.course.Turn.{Turn as Did}
 use Rattle.ov_core.specs.declared.course.Turn.TheVariants as did
 use Rattle.ov_core.specs.Worlds.{World}
-use Rattle.ov_core.specs.Seats.{Seated, itself, world_of}
-use Rattle.ov_core.specs.Sessions.{Lane, Session, Goes, Answers, Turn, goes, answers, passes, Turns, in_order, RunsLine}
+use Rattle.ov_core.specs.Seats.{Seated, itself}
+use Rattle.ov_core.specs.Sessions.{Lane, Goes, Answers, Turn, goes, answers, passes, Turns, in_order, RunsLine}
 use Rattle.ov_core.specs.Ready.{Running}
 use Rattle.ov_core.specs.Courses.{Coursed, Standing, OnCourse, Passed, Went, WasAnswered, Turned, lane_of, session_at}
 use Rattle.ov_core.specs.Scripts.{lanes_of, standing_of, script_at, standing_then, AreCourses, LineRan, LinesRan, TookTurns, RanOut}

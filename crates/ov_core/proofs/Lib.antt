@@ -2,6 +2,14 @@
 pub mod Seats
 -- What a lane's own steps say of it after an event of any lane.
 pub mod Moving
+-- Marks and their events, and a list of seats in which one changed.
+pub mod Marks
+-- The room of a seat, and the seats as an event leaves them.
+pub mod Leaving
+-- What each call of the desk leaves that makes no step of the table: a draw, a replay step, the give-backs.
+pub mod Asking
+-- What may be asked of the table: what is held stands there, and what is owed is on its way out.
+pub mod Mays
 -- A script that runs stays sound with each event of a lane and with each answer.
 pub mod Turning
 -- An event that a line asked for is the event of the definition.
@@ -35,24 +43,14 @@ pub mod Happening
 pub mod Taking
 -- Each lane's line stands ready while the lanes take their turns, from the beginning to the end.
 pub mod Running
--- Marks and their events, and a list of seats in which one changed.
-pub mod Marks
--- The room of a seat, and the seats as an event leaves them.
-pub mod Leaving
--- What each call of the desk leaves that makes no step of the table: a draw, a replay step, the give-backs.
-pub mod Asking
 -- A turn at the world as it is kept is a turn of the definition.
 pub mod Bridging
 -- The lanes once one line more was dealt to its lane.
 pub mod Dealing
 -- The courses of all lanes stay a script that runs, whichever of them takes a turn or runs on.
 pub mod Coursing
--- The report of a script that ran by a schedule.
-pub mod Scheduling
--- The report of a script whose lines ran one after the other.
-pub mod Serially
--- What may be asked of the table: what is held stands there, and what is owed is on its way out.
-pub mod Mays
+-- What a turn of a walk in the world makes of its course.
+pub mod Stepped
 -- The world before any turn, and when a line is over.
 pub mod Newest
 -- What the steps of the table answer: what a look-up finds, and how much a command takes and removes.
@@ -61,5 +59,9 @@ pub mod Acts
 pub mod Joining
 -- What a step of the table leaves: any that a line may ask for, and a release.
 pub mod Calling
+-- The report of a script that ran by a schedule.
+pub mod Scheduling
+-- The report of a script whose lines ran one after the other.
+pub mod Serially
 -- What the loops over all lanes cite.
 pub mod Loops

@@ -1,5 +1,5 @@
 -- The report of a script that ran by a schedule.
-use Rattle.std.proofs.Common.{ℕ, ◌≡◌, ◌≤◌, ◌<◌, List, ◌++◌, length, refl, sym, ◌∙◌, subst, arith}
+use Rattle.std.proofs.Common.{ℕ, ◌≡◌, ◌≤◌, ◌<◌, List, ◌++◌, length, refl, subst, arith}
 use Rattle.std.specs.Prelude.{Some, slice_get}
 use Rattle.std.specs.List.{AllByRecursion}
 use Rattle.std.proofs.lemmas.Option.{slice_get_within}
@@ -8,7 +8,7 @@ use Rattle.ov_model.specs.declared.line.Script.{Script}
 use Rattle.ov_model.specs.Legal.{Legal}
 use Rattle.ov_core.specs.Worlds.{lane_count}
 use Rattle.ov_core.specs.Seats.{Seated, itself, new_seated}
-use Rattle.ov_core.specs.Sessions.{Lane, Session, Turns, in_order, IsDone, begun, report_of, Scheduled}
+use Rattle.ov_core.specs.Sessions.{Lane, Turns, in_order, begun, report_of, Scheduled}
 use Rattle.ov_core.specs.Courses.{Coursed, lane_of}
 use Rattle.ov_core.specs.Scripts.{lanes_of, standing_of, script_at, AreCourses, dealt, TookTurns, RanOut}
 use Rattle.ov_core.proofs.Seats.{same_some}

@@ -1,20 +1,18 @@
 -- The report of a script whose lines ran one after the other.
-use Rattle.std.proofs.Common.{ℕ, ◌≡◌, ◌≢◌, ◌+◌, ◌≤◌, ◌<◌, List, [], ◌∷◌, ◌++◌, length, refl, sym, ◌∙◌, ap, subst, arith, inl, inr, length-append, ◌==◌}
+use Rattle.std.proofs.Common.{ℕ, ◌≡◌, ◌+◌, ◌≤◌, ◌<◌, List, [], ◌∷◌, ◌++◌, length, refl, sym, ◌∙◌, ap, subst, arith, inl, inr, length-append, ◌==◌}
 use Rattle.std.specs.Prelude.{replicate, Some, slice_get, slice_set}
 use Rattle.std.specs.List.{AllByRecursion}
-use Rattle.std.proofs.lemmas.Bool.{cases_eq, eq-eqb}
+use Rattle.std.proofs.lemmas.Bool.{eq-eqb}
 use Rattle.std.proofs.lemmas.List.Elements.{filter-append}
 use Rattle.ov_base.specs.declared.address.Addr.{Addr}
 use Rattle.ov_model.specs.declared.line.Line.{Line}
 use Rattle.ov_model.specs.declared.line.Script.{Script}
 use Rattle.ov_model.specs.Legal.{Legal, lane_lines}
-use Rattle.ov_core.specs.declared.course.Turn.{Turn as Did}
-use Rattle.ov_core.specs.declared.course.Turn.TheVariants as did
 use Rattle.ov_core.specs.Worlds.{lane_count}
 use Rattle.ov_core.specs.Seats.{Seated, itself, new_seated}
-use Rattle.ov_core.specs.Sessions.{Lane, Session, RunsLine, RunsLines, Serial, begun, report_of}
+use Rattle.ov_core.specs.Sessions.{Session, RunsLines, Serial, begun, report_of}
 use Rattle.ov_core.specs.Courses.{Coursed, Standing, OnCourse}
-use Rattle.ov_core.specs.Scripts.{lanes_of, standing_of, script_at, AreCourses, LineRan, RanLines, course_of, dealt}
+use Rattle.ov_core.specs.Scripts.{lanes_of, standing_of, script_at, LineRan, RanLines, course_of, dealt}
 use Rattle.ov_core.proofs.Seats.{set_case}
 use Rattle.ov_core.specs.Sounds.{IsOf}
 use Rattle.ov_core.proofs.Beginning.{get_numbered, is_begun}

