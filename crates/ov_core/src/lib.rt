@@ -7,6 +7,8 @@ mod holding;
 mod mark;
 mod seat;
 mod session;
+#[cfg(test)]
+mod tests;
 mod world;
 
 pub use session::{run_schedule, run_serially};
