@@ -386,10 +386,10 @@ went_begun d e all c x on went =
     let ask : Ask = ask_of itself (world_of d) u.seat u.line in
     let world : world_of e ≡ happened (world_of d) c.lane u.seat place u.line ask = ap (λ (s : Session). s.world) went.goes.after_is in
     let never : IsOver ask → ⊥ = (λ is_over.
-        let same : world_of e ≡ world_of d = world ∙ over_same (world_of d) c.lane u.seat place u.line ask is_over in
-        let seat : new ≡ u.seat = same_some (slice_get (world_of d).seats c.lane) new u.seat (subst (λ (w : World). slice_get w.seats c.lane ≡ Some new) same went.goes.seat_is) u.seat_is in
-        let asks_same : ask_of itself (world_of e) new u.line ≡ ask = ap (λ (w : World). ask_of itself w new u.line) same ∙ ap (λ (s : Seat). ask_of itself (world_of d) s u.line) seat in
-        went.goes.more (subst IsOver (sym asks_same) is_over)) in
+    let same : world_of e ≡ world_of d = world ∙ over_same (world_of d) c.lane u.seat place u.line ask is_over in
+    let seat : new ≡ u.seat = same_some (slice_get (world_of d).seats c.lane) new u.seat (subst (λ (w : World). slice_get w.seats c.lane ≡ Some new) same went.goes.seat_is) u.seat_is in
+    let asks_same : ask_of itself (world_of e) new u.line ≡ ask = ap (λ (w : World). ask_of itself w new u.line) same ∙ ap (λ (s : Seat). ask_of itself (world_of d) s u.line) seat in
+    went.goes.more (subst IsOver (sym asks_same) is_over)) in
     let new_at : slice_get (happened (world_of d) c.lane u.seat place u.line ask).seats c.lane ≡ Some new = subst (λ (w : World). slice_get w.seats c.lane ≡ Some new) world went.goes.seat_is in
     let m : SeatMade u.seat new ask = seat_made (world_of d) c.lane u.seat u.seat_is new place u.line ask never new_at in
     let stage_is : slice_get (slice_set all.stages c.lane x.walk.stage) c.lane ≡ Some x.walk.stage = set_here all.stages c.lane x.walk.stage c.walk.stage on.stage_is in
