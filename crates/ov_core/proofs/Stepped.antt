@@ -1,13 +1,17 @@
 -- What a turn of a walk in the world makes of its course.
-use Rattle.std.proofs.Common.{ℕ, ◌≡◌, ◌<◌, List, [], ◌∷◌, ◌++◌, length, refl, sym, ◌∙◌, ap, subst}
+use Rattle.std.proofs.Common.{ℕ, arith, true, nat_lt, get_or, ◌≡◌, ◌<◌, List, [], ◌∷◌, ◌++◌, length, refl, sym, ◌∙◌, ap, subst}
 use Rattle.std.specs.Prelude.{Some, slice_get, slice_set}
+use Rattle.std.proofs.lemmas.Bool.Decides.{nat_tests}
+use Rattle.std.proofs.lemmas.Option.{slice_get-get_or}
 use Rattle.ov_model.specs.declared.answer.Answer.{Answer}
 use Rattle.ov_model.specs.declared.line.Line.{Line}
 use Rattle.ov_model.specs.declared.place.Place.{Place}
 use Rattle.ov_path.specs.declared.stage.Stage.{Stage}
 use Rattle.ov_path.specs.declared.stage.Stage.TheVariants as stage
 use Rattle.ov_path.specs.declared.walk.Walk.{Walk}
-use Rattle.ov_path.specs.Walks.{GoesOn, Over, Made, MadeOrNone}
+use Rattle.ov_path.specs.declared.walk.Progress.{Progress}
+use Rattle.ov_path.specs.declared.walk.Progress.TheVariants.{More, Answered}
+use Rattle.ov_path.specs.Walks.{GoesOn, Over, Made, MadeOrNone, MadeBy, Progressed}
 use Rattle.ov_core.specs.Worlds.{Seat}
 use Rattle.ov_core.specs.Sessions.{Lane, place_of, Goes, Answers}
 use Rattle.ov_core.specs.Ready.{Running}
@@ -64,3 +68,60 @@ answered_at d e all c a line kept kept_e turn is on line_is m over =
         stage_is = set_here all.stages c.lane stage.Fresh c.walk.stage on.stage_is;
       };
     }
+
+-- ---- as the code has them
+
+-- The world as it is once the lane has its turn.
+pub on_turn : (d e : Seated) (n : ℕ) (all : Standing) (c x : Coursed) → e ≡ record d { turn = n } → c ≡ x → OnCourse d all c → OnCourse e all x
+on_turn d e n all c x given is on = subst (λ (y : Coursed). OnCourse e all y) is (subst (λ (f : Seated). OnCourse f all c) (sym given) (on_at d n all c on))
+
+went_from : (d : Seated) (n : ℕ) (e : Seated) (all : Standing) (c x : Coursed) → Went (record d { turn = n }) e all c x → Went d e all c x
+went_from d n e all c x went = record { goes = went.goes; course = went.course; on = went.on }
+
+answered_from : (d : Seated) (n : ℕ) (e : Seated) (all : Standing) (c x : Coursed) → WasAnswered (record d { turn = n }) e all c x → WasAnswered d e all c x
+answered_from d n e all c x a = record { answer = a.answer; answers = a.answers; course = a.course; on = a.on }
+
+pub went_by : (d f e : Seated) (n : ℕ) (all : Standing) (c y : Coursed) (walk : Walk) (line : Line) → f ≡ record d { turn = n } → c ≡ y → Kept f → Kept e → IsCourse y → n ≡ y.lane → OnCourse d all c → slice_get y.lines (length y.answers) ≡ Some line
+    → Made shown_of Happened itself y.walk.place line f e → GoesOn itself y.walk.place line (shown_of e) walk.stage → Went d e all c (record y { walk = walk })
+went_by d f e n all c y walk line given is kept kept_e course lane on line_is m goes =
+    let turn : f.turn ≡ y.lane = ap (λ (x : Seated). x.turn) given ∙ lane in
+    let went : Went f e all y (record y { walk = walk }) = went_at f e all y walk line kept kept_e turn course (on_turn d f n all c y given is on) line_is m goes in
+    let back : Went (record d { turn = n }) e all y (record y { walk = walk }) = subst (λ (g : Seated). Went g e all y (record y { walk = walk })) given went in
+    subst (λ (z : Coursed). Went d e all z (record y { walk = walk })) (sym is) (went_from d n e all y (record y { walk = walk }) back)
+
+pub answered_by : (d f e : Seated) (n : ℕ) (all : Standing) (c y : Coursed) (a : Answer) (line : Line) → f ≡ record d { turn = n } → c ≡ y → Kept f → Kept e → IsCourse y → n ≡ y.lane → OnCourse d all c → slice_get y.lines (length y.answers) ≡ Some line
+    → MadeOrNone shown_of Happened itself y.walk.place line f e → Over itself y.walk.place line (shown_of e) a
+    → WasAnswered d (after_line e) all c (record { lane = y.lane; lines = y.lines; answers = y.answers ++ a ∷ []; walk = record { place = record { lane = y.lane; line = length (y.answers ++ a ∷ []) }; stage = stage.Fresh } })
+answered_by d f e n all c y a line given is kept kept_e course lane on line_is m over =
+    let x : Coursed = record { lane = y.lane; lines = y.lines; answers = y.answers ++ a ∷ []; walk = record { place = record { lane = y.lane; line = length (y.answers ++ a ∷ []) }; stage = stage.Fresh } } in
+    let turn : f.turn ≡ y.lane = ap (λ (z : Seated). z.turn) given ∙ lane in
+    let done : WasAnswered f (after_line e) all y x = answered_at f e all y a line kept kept_e turn course (on_turn d f n all c y given is on) line_is m over in
+    let back : WasAnswered (record d { turn = n }) (after_line e) all y x = subst (λ (g : Seated). WasAnswered g (after_line e) all y x) given done in
+    subst (λ (z : Coursed). WasAnswered d (after_line e) all z x) (sym is) (answered_from d n (after_line e) all y x back)
+
+-- What was read at a place that a list has.
+pub line_got : (lines seen : List Line) (n at : ℕ) (line : Line) → seen ≡ lines → at ≡ n → (true ≡ nat_lt at (length seen)) × (line ≡ get_or seen at line) → slice_get lines n ≡ Some line
+line_got lines seen n at line same place read =
+    let inside : true ≡ nat_lt at (length seen) = read.0 in
+    let got : slice_get seen at ≡ Some line = slice_get-get_or seen at line (grind (arith, nat_tests)) ∙ ap (λ x. Some x) (sym read.1) in
+    rw (← same, ← place) got
+
+-- The same, by what the turn of the walk answered.
+pub more_by : (d f e : Seated) (n : ℕ) (all : Standing) (c y : Coursed) (walk : Walk) (line : Line) (p : Progress) → p ≡ More → f ≡ record d { turn = n } → c ≡ y → Kept f → Kept e → IsCourse y → n ≡ y.lane → OnCourse d all c → slice_get y.lines (length y.answers) ≡ Some line
+    → MadeBy shown_of Happened itself y.walk.place line p f e → Progressed itself y.walk.place line (shown_of e) walk.stage p → Went d e all c (record y { walk = walk })
+more_by d f e n all c y walk line p more given is kept kept_e course lane on line_is m goes =
+    went_by d f e n all c y walk line given is kept kept_e course lane on line_is
+        (subst (λ (q : Progress). MadeBy shown_of Happened itself y.walk.place line q f e) more m)
+        (subst (λ (q : Progress). Progressed itself y.walk.place line (shown_of e) walk.stage q) more goes)
+
+pub over_by : (d f e g : Seated) (n : ℕ) (all : Standing) (c y : Coursed) (walk next : Walk) (a : Answer) (answers : List Answer) (line : Line) (p : Progress) → p ≡ Answered a → g ≡ after_line e → answers ≡ y.answers ++ a ∷ [] → next ≡ record { place = record { lane = y.lane; line = length answers }; stage = stage.Fresh }
+    → f ≡ record d { turn = n } → c ≡ y → Kept f → Kept e → IsCourse y → n ≡ y.lane → OnCourse d all c → slice_get y.lines (length y.answers) ≡ Some line
+    → MadeBy shown_of Happened itself y.walk.place line p f e → Progressed itself y.walk.place line (shown_of e) walk.stage p → WasAnswered d g all c (record { lane = y.lane; lines = y.lines; answers = answers; walk = next })
+over_by d f e g n all c y walk next a answers line p over after more its given is kept kept_e course lane on line_is m goes =
+    let done = answered_by d f e n all c y a line given is kept kept_e course lane on line_is
+        (subst (λ (q : Progress). MadeBy shown_of Happened itself y.walk.place line q f e) over m)
+        (subst (λ (q : Progress). Progressed itself y.walk.place line (shown_of e) walk.stage q) over goes) in
+    let walked : WasAnswered d (after_line e) all c (record { lane = y.lane; lines = y.lines; answers = answers; walk = record { place = record { lane = y.lane; line = length answers }; stage = stage.Fresh } }) =
+        subst (λ (xs : List Answer). WasAnswered d (after_line e) all c (record { lane = y.lane; lines = y.lines; answers = xs; walk = record { place = record { lane = y.lane; line = length xs }; stage = stage.Fresh } })) (sym more) done in
+    subst (λ (h : Seated). WasAnswered d h all c (record { lane = y.lane; lines = y.lines; answers = answers; walk = next })) (sym after)
+        (subst (λ (w : Walk). WasAnswered d (after_line e) all c (record { lane = y.lane; lines = y.lines; answers = answers; walk = w })) (sym its) walked)

@@ -83,17 +83,19 @@ impl Course {
         requires on { SomeCourse world.old self.old }
         ensures { IfOk result (TurnedIn world.old world.new self.old self.new) }
     {
-        let Some(line) = self.lines.as_slice().get(self.answers.len()) else {
+        let answered = self.answers.as_slice().len();
+        let Some(line) = self.lines.as_slice().get(answered) else {
             return Ok(Turn::Passed);
         };
         world.give_turn(self.lane as usize);
+        world.keeps();
         match take_turn(alloc, world, &mut self.walk, line)? {
             Progress::More => Ok(Turn::Going),
             Progress::Answered(answer) => {
                 self.answers.push(answer)?;
                 self.walk = Walk::new(Place {
                     lane: self.lane,
-                    line: self.answers.len() as u64,
+                    line: self.answers.as_slice().len() as u64,
                 });
                 world.end_line();
                 Ok(Turn::Answered)

@@ -2,6 +2,7 @@
 #![tactic(auto)]
 
 mod counters;
+mod course;
 mod holding;
 mod mark;
 mod seat;
