@@ -51,6 +51,8 @@ pub mod Dealing
 pub mod Coursing
 -- What a turn of a walk in the world makes of its course.
 pub mod Stepped
+-- A line whose turns go on has fewer and fewer turns left.
+pub mod Falling
 -- The world before any turn, and when a line is over.
 pub mod Newest
 -- What the steps of the table answer: what a look-up finds, and how much a command takes and removes.
