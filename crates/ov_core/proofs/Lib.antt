@@ -53,6 +53,8 @@ pub mod Coursing
 pub mod Stepped
 -- A line whose turns go on has fewer and fewer turns left.
 pub mod Falling
+-- A lane's turns up to the end of its line, and its lines up to the last one.
+pub mod Whole
 -- The world before any turn, and when a line is over.
 pub mod Newest
 -- What the steps of the table answer: what a look-up finds, and how much a command takes and removes.

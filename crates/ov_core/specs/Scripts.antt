@@ -4,11 +4,13 @@ use Rattle.std.specs.List.{range_with_len}
 use Rattle.ov_model.specs.declared.line.Line.{Line}
 use Rattle.ov_model.specs.Legal.{lane_lines}
 use Rattle.ov_path.specs.declared.stage.Stage.TheVariants as stage
+use Rattle.ov_core.specs.declared.course.Turn.{Turn}
+use Rattle.ov_core.specs.declared.course.Turn.TheVariants as turn
 use Rattle.ov_core.specs.Worlds.{lane_count}
 use Rattle.ov_core.specs.Seats.{Seated, itself}
 use Rattle.ov_core.specs.Sessions.{Lane, Session, Turns, in_order, RunsLine, RunsLines}
 use Rattle.ov_core.specs.Ready.{Running}
-use Rattle.ov_core.specs.Courses.{Coursed, Standing, OnCourse, lane_of, session_at}
+use Rattle.ov_core.specs.Courses.{Coursed, Standing, OnCourse, Passed, lane_of, session_at}
 
 -- The lanes of some courses.
 abbrev pub lanes_of : List Coursed → List Lane
@@ -77,3 +79,17 @@ pub record RanLines (all : List Line) (d e : Seated) (before after : List Course
   pub are : AreCourses e after
   pub lines_are : (i : ℕ) (c : Coursed) → slice_get after i ≡ Some c → c.lines ≡ lane_lines all i
   pub answered : (i : ℕ) (c : Coursed) → slice_get after i ≡ Some c → length c.answers ≡ length (lane_lines lines i)
+
+-- A line of the lane ran to its end, or the lane had none left.
+abbrev pub RanLine : (d e : Seated) → Standing → (c x : Coursed) → Turn → Type 0
+RanLine d e all c x turn.Passed = Passed d e c x
+RanLine d e all c x turn.Going = ⊥
+RanLine d e all c x turn.Answered = LineRan d e all c x
+
+-- The same, in whichever script the course is its lane's.
+abbrev pub RanLineIn : (d e : Seated) → (c x : Coursed) → Turn → Type 0
+RanLineIn d e c x r = (all : Standing) → OnCourse d all c → RanLine d e all c x r
+
+-- All lines of the lane ran to their end, in whichever script the course is its lane's.
+abbrev pub LinesRanIn : (d e : Seated) → (c x : Coursed) → Type 0
+LinesRanIn d e c x = (all : Standing) → OnCourse d all c → LinesRan d e all c x
