@@ -7,9 +7,9 @@ use Rattle.ov_core.specs.declared.course.Turn.{Turn as Did}
 use Rattle.ov_core.specs.declared.course.Turn.TheVariants as did
 use Rattle.ov_core.specs.Worlds.{World}
 use Rattle.ov_core.specs.Seats.{Seated, itself, world_of}
-use Rattle.ov_core.specs.Sessions.{Lane, Session, Goes, Answers, GoesOn, RunsLine, Turns}
+use Rattle.ov_core.specs.Sessions.{Lane, Session, Goes, Answers, GoesOn, Turns}
 use Rattle.ov_core.specs.Ready.{Running}
-use Rattle.ov_core.specs.Courses.{Coursed, Standing, OnCourse, SomeCourse, Passed, Went, WasAnswered, Turned, TurnedIn, lane_of, session_at}
+use Rattle.ov_core.specs.Courses.{Coursed, Standing, OnCourse, SomeCourse, Passed, WasAnswered, Turned, TurnedIn, lane_of, session_at}
 use Rattle.ov_core.specs.Scripts.{standing_then, LineRan, LinesRan, RanLine, RanLineIn, LinesRanIn}
 use Rattle.ov_core.specs.Measure.{turns_left}
 use Rattle.ov_core.proofs.Ends.{IsBegun}
