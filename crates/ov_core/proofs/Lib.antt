@@ -51,6 +51,10 @@ pub mod Dealing
 pub mod Coursing
 -- What a turn of a walk in the world makes of its course.
 pub mod Stepped
+-- A line whose turns go on has fewer and fewer turns left.
+pub mod Falling
+-- A lane's turns up to the end of its line, and its lines up to the last one.
+pub mod Whole
 -- The world before any turn, and when a line is over.
 pub mod Newest
 -- What the steps of the table answer: what a look-up finds, and how much a command takes and removes.

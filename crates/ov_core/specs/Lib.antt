@@ -5,3 +5,4 @@ pub mod Seats
 pub mod Ready
 pub mod Courses
 pub mod Scripts
+pub mod Measure

@@ -6,8 +6,8 @@ ghost use Rattle.ov_path.specs.declared.stage.Stage.TheVariants as stage;
 ghost use Rattle.ov_path.specs.Walks.{GoesOn, Progressed, MadeBy};
 ghost use Rattle.ov_core.specs.Seats.{Happened, Kept, itself, shown_of};
 ghost use Rattle.ov_core.specs.Courses.{SomeCourse, TurnedIn, lane_of};
-ghost use Rattle.ov_core.specs.Scripts.{LinesRanIn, RanLineIn, dealt, lanes_of};
 ghost use Rattle.ov_core.specs.Sessions.{log_of};
+ghost use Rattle.ov_core.specs.Scripts.{LinesRanIn, RanLineIn, dealt, lanes_of};
 
 use crate::world::{LANES, World};
 use ov_base::{ListOf, Memory};
@@ -112,19 +112,24 @@ impl Course {
         }
     }
 
-    /// Runs the lane's line to its end.
+    /// Runs the lane's next line to its end. `Passed` where it has no line left.
     pub fn run_line(&mut self, alloc: Global, world: &mut World) -> Result<Turn, Memory>
         requires on { SomeCourse world.old self.old }
         ensures { IfOk result (RanLineIn world.old world.new self.old self.new) }
     {
-        Ok(Turn::Passed)
+        let mut last = self.turn(alloc, world)?;
+        'turns: while let Turn::Going = last {
+            last = self.turn(alloc, world)?;
+        }
+        Ok(last)
     }
 
-    /// Runs the lane's lines to their end.
+    /// Runs the lane's lines to their end, one after the other.
     pub fn run_out(&mut self, alloc: Global, world: &mut World) -> Result<(), Memory>
         requires on { SomeCourse world.old self.old }
         ensures { OnOk result (LinesRanIn world.old world.new self.old self.new) }
     {
+        'lines: while let Turn::Answered = self.run_line(alloc, world)? {}
         Ok(())
     }
 
