@@ -1,0 +1,97 @@
+-- A turn at the world as it is kept is a turn of the definition.
+use Rattle.std.proofs.Common.{ℕ, ◌≡◌, List, [], ◌∷◌, ◌++◌, length, refl, sym, ◌∙◌, ap, subst}
+use Rattle.std.specs.Prelude.{◌≤◌, map, replicate, Some, slice_get, slice_set}
+use Rattle.ov_model.specs.declared.answer.Answer.{Answer}
+use Rattle.ov_model.specs.declared.line.Line.{Line}
+use Rattle.ov_model.specs.declared.line.Script.{Script}
+use Rattle.ov_model.specs.Next.{Nil}
+use Rattle.ov_path.specs.Desks.{NoHold}
+use Rattle.ov_path.specs.Walks.{GoesOn, Over, Made, MadeOrNone, made, nothing, next_at}
+use Rattle.ov_path.specs.declared.stage.Stage.{Stage}
+use Rattle.ov_path.specs.declared.stage.Stage.TheVariants as stage
+use Rattle.ov_core.specs.Worlds.{World, Seat, lane_count, no_line, Makes}
+use Rattle.ov_core.specs.Sessions.{Lane, Session, place_of, new_lanes, UnderWay, Goes, Answers, answered}
+use Rattle.ov_core.specs.Ready.{Running}
+use Rattle.ov_core.specs.Seats.{Sitting, Seated, Happened, Kept, seen, steps_at, seat_of, shown_of, world_of, itself, new_seated, after_line}
+use Rattle.ov_core.proofs.Seats.{same_some}
+use Rattle.ov_core.proofs.Marks.{map_set}
+use Rattle.ov_core.proofs.Leaving.{seen_at}
+use Rattle.ov_core.proofs.Taking.{Took}
+use Rattle.ov_core.proofs.Running.{running_begun, turn_goes, turn_answers, turn_answers_at_once}
+
+-- The script that runs, of the world as it is kept and the lanes.
+abbrev pub session_of : Seated → List Lane → Session
+session_of d lanes = record { world = world_of d; lanes = lanes }
+
+-- The seat of the lane that has its turn, as the definitions have it.
+abbrev pub own_seat : Seated → Seat
+own_seat d = seen (steps_at d) (seat_of d)
+
+-- The line under way of the lane that has its turn.
+abbrev pub under : (d : Seated) (lanes : List Lane) (lane : Lane) (line : Line) → Kept d → slice_get lanes d.turn ≡ Some lane → slice_get lane.lines (length lane.answers) ≡ Some line → UnderWay (session_of d lanes) d.turn
+under d lanes lane line kept lane_is line_is = record { lane = lane; seat = own_seat d; line = line; lane_is = lane_is; seat_is = seen_at d kept; line_is = line_is }
+
+-- What a turn at the desk made is what a turn of the lane took.
+took : (d e : Seated) (lanes : List Lane) (lane : Lane) (line : Line) (at : Stage) (kept : Kept d) (lane_is : slice_get lanes d.turn ≡ Some lane) (line_is : slice_get lane.lines (length lane.answers) ≡ Some line) → GoesOn itself (place_of d.turn lane) line (shown_of d) at → (m : Made shown_of Happened itself (place_of d.turn lane) line d e) → Took itself (session_of d lanes) d.turn (under d lanes lane line kept lane_is line_is) at m.event (world_of e)
+took d e lanes lane line at kept lane_is line_is goes m =
+    let there = m.done.happened in
+    let same : there.seat ≡ own_seat d = same_some (slice_get (world_of d).seats d.turn) there.seat (own_seat d) there.seat_is (seen_at d kept) in
+    record {
+      walking = goes.0;
+      is_open = goes.1;
+      makes = subst (λ (x : Seat). Makes (world_of d) d.turn x m.event (world_of e)) same there.makes;
+      asked = m.asks;
+      own = m.own;
+    }
+
+-- The lane's seat after the turn.
+seat_after : (d e : Seated) → Kept e → e.turn ≡ d.turn → slice_get (world_of e).seats d.turn ≡ Some (own_seat e)
+seat_after d e kept same = subst (λ n. slice_get (world_of e).seats n ≡ Some (own_seat e)) same (seen_at e kept)
+
+-- A turn after which the line goes on.
+pub turn_more : (d e : Seated) (lanes : List Lane) (stages : List Stage) (lane : Lane) (line : Line) (at now : Stage) → Kept d → Kept e → Running itself (session_of d lanes) stages → slice_get lanes d.turn ≡ Some lane → slice_get lane.lines (length lane.answers) ≡ Some line → slice_get stages d.turn ≡ Some at → Made shown_of Happened itself (place_of d.turn lane) line d e → GoesOn itself (place_of d.turn lane) line (shown_of e) now → Goes itself d.turn (session_of d lanes) (session_of e lanes) × Running itself (session_of e lanes) (slice_set stages d.turn now)
+turn_more d e lanes stages lane line at now kept kept_e running lane_is line_is at_is m goes =
+    let before : GoesOn itself (place_of d.turn lane) line (shown_of d) at = (running.ready d.turn lane (own_seat d) at lane_is (seen_at d kept) at_is).goes line line_is in
+    turn_goes stages now (own_seat e) running kept_e.sound (took d e lanes lane line at kept lane_is line_is before m) (seat_after d e kept_e m.done.turn) goes
+
+-- ---- a turn that answers
+
+-- The world once the line is forgotten, where its seat holds and owes nothing.
+free_world : (e : Seated) → (seat_of e).hold ≡ NoHold → (seat_of e).owing ≡ [] → record (world_of e) { seats = slice_set (world_of e).seats e.turn no_line } ≡ world_of (after_line e)
+free_world e hold owing =
+    let free : Sitting = record (seat_of e) { marks = [] } in
+    let is_free : seen (steps_at e) free ≡ no_line = rw (hold, owing) refl in
+    let seats : map (seen (steps_at e)) (slice_set e.seats e.turn free) ≡ slice_set (world_of e).seats e.turn no_line = map_set (seen (steps_at e)) e.seats e.turn free ∙ ap (slice_set (world_of e).seats e.turn) is_free in
+    ap (λ (xs : List Seat). record (world_of e) { seats = xs }) (sym seats)
+
+-- The lanes with one answer more.
+abbrev pub with_answer : List Lane → ℕ → Lane → Answer → List Lane
+with_answer lanes i lane a = slice_set lanes i (record lane { answers = lane.answers ++ a ∷ [] })
+
+free_session : (d e : Seated) (lanes : List Lane) (lane : Lane) (a : Answer) → e.turn ≡ d.turn → (seat_of e).hold ≡ NoHold → (seat_of e).owing ≡ [] → answered (session_of d lanes) (world_of e) d.turn lane a ≡ session_of (after_line e) (with_answer lanes d.turn lane a)
+free_session d e lanes lane a same hold owing =
+    let world : record (world_of e) { seats = slice_set (world_of e).seats d.turn no_line } ≡ world_of (after_line e) = subst (λ n. record (world_of e) { seats = slice_set (world_of e).seats n no_line } ≡ world_of (after_line e)) same (free_world e hold owing) in
+    ap (λ (w : World). record { world = w; lanes = with_answer lanes d.turn lane a }) world
+
+-- What is said of the answered script is said of the world whose line is forgotten.
+abbrev AnsweredBy : Seated → List Lane → List Stage → Session → Type 0
+AnsweredBy d lanes stages after = Answers itself d.turn (session_of d lanes) after × Running itself after (slice_set stages d.turn stage.Fresh)
+
+-- A turn that answers the line, with an event or without one.
+pub turn_over : (d e : Seated) (lanes : List Lane) (stages : List Stage) (lane : Lane) (line : Line) (at : Stage) (a : Answer) → Kept d → Kept e → Running itself (session_of d lanes) stages → slice_get lanes d.turn ≡ Some lane → slice_get lane.lines (length lane.answers) ≡ Some line → slice_get stages d.turn ≡ Some at → MadeOrNone shown_of Happened itself (place_of d.turn lane) line d e → Over itself (place_of d.turn lane) line (shown_of e) a → Answers itself d.turn (session_of d lanes) (session_of (after_line e) (with_answer lanes d.turn lane a)) × Running itself (session_of (after_line e) (with_answer lanes d.turn lane a)) (slice_set stages d.turn stage.Fresh)
+turn_over d e lanes stages lane line at a kept kept_e running lane_is line_is at_is (made m) over =
+    let before : GoesOn itself (place_of d.turn lane) line (shown_of d) at = (running.ready d.turn lane (own_seat d) at lane_is (seen_at d kept) at_is).goes line line_is in
+    subst (AnsweredBy d lanes stages) (free_session d e lanes lane a m.done.turn over.hold over.owes)
+    (turn_answers stages (own_seat e) a running kept_e.sound (took d e lanes lane line at kept lane_is line_is before m) (seat_after d e kept_e m.done.turn) over)
+turn_over d e lanes stages lane line at a kept kept_e running lane_is line_is at_is (nothing asks same) over =
+    let own : Over itself (place_of d.turn lane) line (shown_of d) a = subst (λ x. Over itself (place_of d.turn lane) line (shown_of x) a) same over in
+    let none : next_at itself line (shown_of d) (shown_of d) ≡ Nil = subst (λ x. next_at itself line (shown_of d) (shown_of x) ≡ Nil) same asks in
+    subst (λ x. AnsweredBy d lanes stages (session_of (after_line x) (with_answer lanes d.turn lane a))) (sym same)
+    (subst (AnsweredBy d lanes stages) (free_session d d lanes lane a refl own.hold own.owes)
+    (turn_answers_at_once (under d lanes lane line kept lane_is line_is) stages a running none own))
+
+-- ---- the beginning
+
+-- The world before any turn, as it is kept, is that of the definitions, and each lane stands ready.
+pub running_new : (script : Script) (first : ℕ) → first ≤ 4294967296 → Running itself (session_of (new_seated first) (new_lanes script.lines)) (replicate lane_count stage.Fresh)
+running_new script first most = running_begun itself script first most

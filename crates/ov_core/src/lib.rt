@@ -1,0 +1,14 @@
+//! Lines of many lanes at one table: a world that all lanes share, its turns, and the report of a script.
+#![tactic(auto)]
+
+mod counters;
+mod course;
+mod holding;
+mod mark;
+mod seat;
+mod session;
+#[cfg(test)]
+mod tests;
+mod world;
+
+pub use session::{run_schedule, run_serially};
