@@ -1,23 +1,22 @@
 -- A turn at the world as it is kept is a turn of the definition.
 use Rattle.std.proofs.Common.{ℕ, ◌≡◌, List, [], ◌∷◌, ◌++◌, length, refl, sym, ◌∙◌, ap, subst}
-use Rattle.std.specs.Prelude.{◌≤◌, map, replicate, Some, slice_get, slice_set}
+use Rattle.std.specs.Prelude.{map, Some, slice_get, slice_set}
 use Rattle.ov_model.specs.declared.answer.Answer.{Answer}
 use Rattle.ov_model.specs.declared.line.Line.{Line}
-use Rattle.ov_model.specs.declared.line.Script.{Script}
 use Rattle.ov_model.specs.Next.{Nil}
 use Rattle.ov_path.specs.Desks.{NoHold}
 use Rattle.ov_path.specs.Walks.{GoesOn, Over, Made, MadeOrNone, made, nothing, next_at}
 use Rattle.ov_path.specs.declared.stage.Stage.{Stage}
 use Rattle.ov_path.specs.declared.stage.Stage.TheVariants as stage
-use Rattle.ov_core.specs.Worlds.{World, Seat, lane_count, no_line, Makes}
-use Rattle.ov_core.specs.Sessions.{Lane, Session, place_of, new_lanes, UnderWay, Goes, Answers, answered}
+use Rattle.ov_core.specs.Worlds.{World, Seat, no_line, Makes}
+use Rattle.ov_core.specs.Sessions.{Lane, Session, place_of, UnderWay, Goes, Answers, answered}
 use Rattle.ov_core.specs.Ready.{Running}
-use Rattle.ov_core.specs.Seats.{Sitting, Seated, Happened, Kept, seen, steps_at, seat_of, shown_of, world_of, itself, new_seated, after_line}
+use Rattle.ov_core.specs.Seats.{Sitting, Seated, Happened, Kept, seen, steps_at, seat_of, shown_of, world_of, itself, after_line}
 use Rattle.ov_core.proofs.Seats.{same_some}
 use Rattle.ov_core.proofs.Marks.{map_set}
 use Rattle.ov_core.proofs.Leaving.{seen_at}
 use Rattle.ov_core.proofs.Taking.{Took}
-use Rattle.ov_core.proofs.Running.{running_begun, turn_goes, turn_answers, turn_answers_at_once}
+use Rattle.ov_core.proofs.Running.{turn_goes, turn_answers, turn_answers_at_once}
 
 -- The script that runs, of the world as it is kept and the lanes.
 abbrev pub session_of : Seated → List Lane → Session
@@ -89,9 +88,3 @@ turn_over d e lanes stages lane line at a kept kept_e running lane_is line_is at
     subst (λ x. AnsweredBy d lanes stages (session_of (after_line x) (with_answer lanes d.turn lane a))) (sym same)
     (subst (AnsweredBy d lanes stages) (free_session d d lanes lane a refl own.hold own.owes)
     (turn_answers_at_once (under d lanes lane line kept lane_is line_is) stages a running none own))
-
--- ---- the beginning
-
--- The world before any turn, as it is kept, is that of the definitions, and each lane stands ready.
-pub running_new : (script : Script) (first : ℕ) → first ≤ 4294967296 → Running itself (session_of (new_seated first) (new_lanes script.lines)) (replicate lane_count stage.Fresh)
-running_new script first most = running_begun itself script first most

@@ -106,10 +106,6 @@ turned d e courses i c x did.Answered are at t = answered_turn d e courses i c x
 
 -- ---- turns in a row
 
--- No turn yet.
-pub took_none : (d : Seated) (courses : List Coursed) → AreCourses d courses → TookTurns d d courses courses []
-took_none d courses are = record { turns = refl; are = are }
-
 -- One lane more took a turn.
 pub took_more : (d e f : Seated) (before mid : List Coursed) (lanes : List ℕ) (i : ℕ) (c x : Coursed) (r : Did) → TookTurns d e before mid lanes → slice_get mid i ≡ Some c → ((all : Standing) → OnCourse e all c → Turned e f all c x r) → TookTurns d f before (slice_set mid i x) (lanes ++ i ∷ [])
 took_more d e f before mid lanes i c x r took at did_so =

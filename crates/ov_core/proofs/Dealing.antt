@@ -1,4 +1,4 @@
--- The lanes once one line more was dealt to its lane.
+-- The courses once one line more was dealt to its lane, and once all are.
 use Rattle.std.proofs.Common.{ℕ, ◌≡◌, ◌≢◌, ◌+◌, ◌<◌, ◌≤◌, zero, suc, List, [], ◌∷◌, ◌++◌, refl, sym, ◌∙◌, ap, subst, arith, append-nil}
 use Rattle.std.specs.Prelude.{map, replicate, slice_set, ◌==◌}
 use Rattle.std.specs.List.{range_with_len}
@@ -10,7 +10,7 @@ use Rattle.ov_core.specs.Worlds.{lane_count}
 use Rattle.ov_model.specs.declared.line.Script.{Script}
 use Rattle.ov_path.specs.declared.stage.Stage.TheVariants as stage
 use Rattle.ov_core.specs.Seats.{itself, new_seated}
-use Rattle.ov_core.specs.Sessions.{Lane, new_lanes, begun}
+use Rattle.ov_core.specs.Sessions.{begun}
 use Rattle.ov_core.specs.Ready.{Running}
 use Rattle.ov_core.specs.Courses.{Coursed, lane_of, session_at}
 use Rattle.ov_core.specs.Scripts.{standing_of, script_at, AreCourses, course_of, dealt}
@@ -41,17 +41,7 @@ own_lines lines line lane same = filter-append (λ (l : Line). l.lane == lane) l
 pub other_lines : (lines : List Line) (line : Line) (lane : ℕ) → line.lane ≢ lane → lane_lines (lines ++ line ∷ []) lane ≡ lane_lines lines lane
 other_lines lines line lane other = filter-append (λ (l : Line). l.lane == lane) lines (line ∷ []) ∙ rw (ne_eqb line.lane lane other) (append-nil (lane_lines lines lane))
 
--- One line more goes to its lane, and the other lanes have what they had.
-pub new_lanes_more : (lines : List Line) (line : Line) → line.lane < lane_count → new_lanes (lines ++ line ∷ []) ≡ slice_set (new_lanes lines) line.lane (record { lines = lane_lines lines line.lane ++ line ∷ []; answers = [] })
-new_lanes_more lines line below =
-    let f : ℕ → Lane = λ i. record { lines = lane_lines lines i; answers = [] } in
-    let g : ℕ → Lane = λ i. record { lines = lane_lines (lines ++ line ∷ []) i; answers = [] } in
-    let zeroth : 0 + line.lane ≡ line.lane = omega arith in
-    let more : g line.lane ≡ record { lines = lane_lines lines line.lane ++ line ∷ []; answers = [] } = ap (λ (ls : List Line). record { lines = ls; answers = [] }) (own_lines lines line line.lane refl) in
-    numbered_set f g 0 lane_count line.lane below (λ k other. ap (λ (ls : List Line). record { lines = ls; answers = [] }) (other_lines lines line k (λ e. other (sym e ∙ sym zeroth))))
-    ∙ ap (λ k. slice_set (new_lanes lines) line.lane (g k)) zeroth ∙ ap (slice_set (new_lanes lines) line.lane) more
-
--- The same of the courses.
+-- One line more goes to its course, and the other courses have what they had.
 pub dealt_more : (lines : List Line) (line : Line) → line.lane < lane_count → dealt (lines ++ line ∷ []) ≡ slice_set (dealt lines) line.lane (record (course_of lines line.lane) { lines = lane_lines lines line.lane ++ line ∷ [] })
 dealt_more lines line below =
     let zeroth : 0 + line.lane ≡ line.lane = omega arith in

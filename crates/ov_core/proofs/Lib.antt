@@ -45,7 +45,7 @@ pub mod Taking
 pub mod Running
 -- A turn at the world as it is kept is a turn of the definition.
 pub mod Bridging
--- The lanes once one line more was dealt to its lane.
+-- The courses once one line more was dealt to its lane, and once all are.
 pub mod Dealing
 -- The courses of all lanes stay a script that runs, whichever of them takes a turn or runs on.
 pub mod Coursing

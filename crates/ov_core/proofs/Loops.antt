@@ -1,21 +1,17 @@
 -- What the loops over all lanes cite.
-use Rattle.std.proofs.Common.{ℕ, ◌≡◌, ◌+◌, ◌≤◌, ◌<◌, zero, suc, List, [], ◌∷◌, ◌++◌, length, refl, sym, ◌∙◌, ap, subst, arith, get_or, take, drop, take_all}
+use Rattle.std.proofs.Common.{ℕ, ◌≡◌, ◌+◌, ◌≤◌, ◌<◌, zero, suc, List, [], ◌∷◌, ◌++◌, length, sym, ◌∙◌, ap, subst, arith, get_or, take, drop, take_all}
 use Rattle.std.specs.Prelude.{map, Some, Result, Ok, Err, IfOk, slice_get, slice_set}
 use Rattle.std.specs.List.{AllByRecursion}
 use Rattle.std.proofs.lemmas.List.Elements.{All-from_recursion, All-get_or}
 use Rattle.std.proofs.lemmas.List.{length-map}
-use Rattle.std.proofs.lemmas.Option.{slice_get_within}
 use Rattle.ov_model.specs.declared.line.Line.{Line}
 use Rattle.ov_core.specs.declared.course.Turn.{Turn as Did}
 use Rattle.ov_core.specs.declared.course.Turn.TheVariants as did
 use Rattle.ov_core.specs.Worlds.{lane_count}
 use Rattle.ov_model.specs.declared.line.Script.{Script}
 use Rattle.ov_core.specs.Seats.{Seated, new_seated}
-use Rattle.ov_core.specs.Sessions.{log_of}
-use Rattle.ov_core.specs.Courses.{Coursed, Standing, OnCourse, SomeCourse, lane_of}
-use Rattle.ov_core.specs.Scripts.{lanes_of, standing_of, AreCourses, RanLine, RanLineIn, LineRan, RanLines, TookTurns, RanOut, course_of, dealt}
-use Rattle.ov_core.proofs.Seats.{same_some}
-use Rattle.ov_core.proofs.Marks.{map_get}
+use Rattle.ov_core.specs.Courses.{Coursed, Standing, SomeCourse}
+use Rattle.ov_core.specs.Scripts.{standing_of, AreCourses, RanLine, RanLineIn, LineRan, RanLines, TookTurns, RanOut, course_of, dealt}
 use Rattle.ov_core.proofs.Beginning.{get_numbered}
 use Rattle.ov_core.proofs.Running.{member_at}
 use Rattle.ov_core.proofs.Dealing.{dealt_more, dealt_are}
@@ -76,10 +72,6 @@ serial_step all order k d e f before mid c x r order_is below ran at ran_so =
     let one_more : suc k ≡ k + 1 = omega arith in
     let taken : take k all ++ line ∷ [] ≡ take (k + 1) all = sym (take_next all k line next.1) ∙ ap (λ n. take n all) one_more in
     subst (λ ls. RanLines all d f before (slice_set mid (get_or order k 0) x) ls) taken (subst (λ n. RanLines all d f before (slice_set mid n x) (take k all ++ line ∷ [])) (sym lane) more)
-
--- As many logs as lanes.
-pub logs_count : (d : Seated) (courses : List Coursed) → AreCourses d courses → length (map log_of (lanes_of courses)) ≡ 64
-logs_count d courses are = length-map (lanes_of courses) log_of ∙ length-map courses lane_of ∙ are.count
 
 -- ---- the runs of a script
 

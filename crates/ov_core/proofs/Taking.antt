@@ -218,9 +218,6 @@ none_answers {via} s i u a none over = record {
 
 -- ---- the script stays this one
 
-pub is_in_world : {script : Script} {first : ℕ} (s : Session) (i : ℕ) (t : Seat) (event : Event) (v : World) → Makes s.world i t event v → IsOf script first s → IsOf script first (in_world s v)
-is_in_world s i t event v makes of = record { first_is = (next_seat s.world i t event v makes).first ∙ of.first_is; count = of.count; lines = of.lines }
-
 pub is_answered : {script : Script} {first : ℕ} (s : Session) (w : World) (i : ℕ) (lane : Lane) (a : Answer) → slice_get s.lanes i ≡ Some lane → w.first ≡ s.world.first → IsOf script first s → IsOf script first (answered s w i lane a)
 is_answered s w i lane a lane_is same of = record {
   first_is = same ∙ of.first_is;

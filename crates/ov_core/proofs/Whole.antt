@@ -132,12 +132,6 @@ next_falls d e f all c x y did.Answered g t = omega arith
 pub turned_first : (d e : Seated) (c x : Coursed) (r : Did) → TurnedIn d e c x r → RunToIn d e c x r
 turned_first d e c x r t = λ all on. first_turn d e all c x r on (t all on)
 
--- A course whose line goes on is that of its lane.
-pub going_course : (d e : Seated) (c x : Coursed) (r : Did) → r ≡ did.Going → SomeCourse d c → RunToIn d e c x r → SomeCourse e x
-going_course d e c x r going some to =
-    let gone : RunToIn d e c x did.Going = subst (λ (q : Did). RunToIn d e c x q) going to in
-    record { all = standing_on some.all c x; on = (gone some.all some.on).on }
-
 pub turned_next : (d e f : Seated) (c x y : Coursed) (r q : Did) → r ≡ did.Going → RunToIn d e c x r → TurnedIn e f x y q → RunToIn d f c y q
 turned_next d e f c x y r q going to t = λ all on.
     let gone : RunToIn d e c x did.Going = subst (λ (z : Did). RunToIn d e c x z) going to in
@@ -249,9 +243,6 @@ line_falls d e all c x on ran =
     omega arith
 
 -- ---- as the loop has them
-
-pub out_course : (d e : Seated) (c x : Coursed) → SomeCourse d c → OutToIn d e c x → SomeCourse e x
-out_course d e c x some to = record { all = standing_then some.all x; on = (to some.all some.on).on }
 
 pub out_next : (d e f : Seated) (c x y : Coursed) (r : Did) → r ≡ did.Answered → OutToIn d e c x → RanLineIn e f x y r → OutToIn d f c y
 out_next d e f c x y r answered to ran = λ all on.

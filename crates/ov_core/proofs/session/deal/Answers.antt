@@ -1,10 +1,8 @@
 -- One line more goes to its lane.
-use Rattle.std.proofs.Common.{ℕ, ◌≡◌, ◌<◌, List, ◌∷◌, length, get_or, refl, sym, ◌∙◌, ap, subst, arith}
+use Rattle.std.proofs.Common.{ℕ, ◌≡◌, ◌<◌, List, length, ◌∙◌, ap, arith}
 use Rattle.std.specs.Prelude.{Some, slice_get}
-use Rattle.std.specs.List.{AllByRecursion}
 use Rattle.std.proofs.lemmas.Iterator.Consumers.{YieldsList-turn}
 use Rattle.std.proofs.lemmas.Iterator.Adapters.{YieldsList-from_vec}
-use Rattle.ov_model.specs.declared.line.Line.{Line}
 use Rattle.ov_model.specs.Sizes.{Fits}
 use Rattle.ov_core.specs.Courses.{Coursed}
 use Rattle.ov_core.proofs.Marks.{read_there}

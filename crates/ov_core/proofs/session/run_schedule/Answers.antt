@@ -1,10 +1,8 @@
 -- The lanes of the schedule took their turns, and all lanes ran to their end.
-use Rattle.std.proofs.Common.{◌≡◌, ◌≤◌, ◌<◌, List, ◌∙◌, ap, sym, subst, arith}
+use Rattle.std.proofs.Common.{◌≡◌, ◌∙◌, ap, sym, subst, arith}
 use Rattle.ov_model.specs.declared.report.Report.{Report}
 use Rattle.ov_model.specs.Legal.{Legal}
-use Rattle.ov_core.specs.Seats.{new_seated}
 use Rattle.ov_core.specs.Sessions.{Scheduled}
-use Rattle.ov_core.specs.Courses.{Coursed}
 use Rattle.ov_core.specs.Scripts.{dealt}
 use Rattle.ov_core.proofs.Scheduling.{RanBy}
 use Rattle.ov_core.proofs.Loops.{if_ok, start_are, scheduled_at}
