@@ -5,7 +5,7 @@ ghost use Rattle.std.specs.List.{AllByRecursion};
 ghost use Rattle.ov_model.specs.Sizes.{Fits};
 
 use crate::{run_schedule, run_serially};
-use ov_base::{ListOf, Memory, Octets};
+use ov_base::{Boxed, ListOf, Memory, Octets};
 use ov_model::netlink::NO_ATTRIBUTES;
 use ov_model::{
     Answer, Cipher, Deed, DropCause, KeyId, Line, NlKeyConf, NlKeyDir, NlMessage, NlOp, NlPeer,
@@ -78,8 +78,8 @@ fn two_packets(alloc: Global) -> Result<Script, Memory>
     ensures lanes { IfOk result (λ script. AllByRecursion (λ line. line.lane < 64) script.lines) }
 {
     let mut lines = Vec::new(alloc);
-    lines.push(line(0, Deed::Netlink(peer_new())))?;
-    lines.push(line(0, Deed::Netlink(key_new(alloc)?)))?;
+    lines.push(line(0, Deed::Netlink(Boxed::new(alloc, peer_new())?)))?;
+    lines.push(line(0, Deed::Netlink(Boxed::new(alloc, key_new(alloc)?)?)))?;
     lines.push(line(0, Deed::Tx(Octets::of(alloc, &PACKET)?)))?;
     lines.push(line(0, Deed::Tx(Octets::of(alloc, &PACKET)?)))?;
     Ok(Script {
@@ -106,10 +106,10 @@ fn removal(alloc: Global) -> Result<Script, Memory>
     ensures lanes { IfOk result (λ script. AllByRecursion (λ line. line.lane < 64) script.lines) }
 {
     let mut lines = Vec::new(alloc);
-    lines.push(line(0, Deed::Netlink(peer_new())))?;
-    lines.push(line(0, Deed::Netlink(key_new(alloc)?)))?;
+    lines.push(line(0, Deed::Netlink(Boxed::new(alloc, peer_new())?)))?;
+    lines.push(line(0, Deed::Netlink(Boxed::new(alloc, key_new(alloc)?)?)))?;
     lines.push(line(0, Deed::Tx(Octets::of(alloc, &PACKET)?)))?;
-    lines.push(line(1, Deed::Netlink(peer_del())))?;
+    lines.push(line(1, Deed::Netlink(Boxed::new(alloc, peer_del())?)))?;
     Ok(Script {
         lines: ListOf::of_vec(lines),
     })
