@@ -6,3 +6,7 @@ pub mod Slots
 pub mod Held
 -- The index goes on saying the truth where one peer is changed or taken out.
 pub mod Changed
+-- A member of a list with holes that is taken out, changed and put back at its place.
+pub mod Back
+-- A list of those that are gone goes on saying the truth of its places as one joins and one is taken out.
+pub mod Listed
