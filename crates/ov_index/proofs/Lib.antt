@@ -6,3 +6,5 @@ pub mod Slots
 pub mod Held
 -- The index goes on saying the truth where one peer is changed or taken out.
 pub mod Changed
+-- Lists that rise strictly by a number: a sort makes the one that the definition names.
+pub mod Rising

@@ -1,6 +1,5 @@
 -- The live peers with the counts of all peers and keys that were ever made.
 use Rattle.std.specs.Prelude.{ℕ, ◌≡◌, List, [], ◌∷◌, Option, Some, None, slice_get, true}
-use Rattle.ov_base.specs.declared.address.Transport.{Transport}
 use Rattle.ov_model.specs.Tables.{Peer, Key, by_key}
 use Rattle.ov_model.specs.Step.{has_key}
 use Rattle.ov_index.specs.declared.name.Name.{Name}
@@ -30,11 +29,6 @@ standing_in (Some slot) = slot
 -- What stands at a place of a list.
 abbrev pub standing : {X : Type 0} → List (Option X) → ℕ → Option X
 standing slots k = standing_in (slice_get slots k)
-
--- A peer with another remote, where one is given.
-abbrev pub moved : Option Transport → Peer → Peer
-moved None p = p
-moved (Some remote) p = record p { remote = remote }
 
 -- What the maps say is what the places say: each peer stands at the place of its serial, is the one that its
 -- names lead to, and they lead nowhere else; and each key of a slot was made for the peer that has it.

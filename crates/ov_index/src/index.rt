@@ -12,7 +12,7 @@ mod looks;
 
 use crate::name::Name;
 use crate::names::{Owners, make_room, put_all, take_all};
-use crate::peer::Peer;
+use ov_peer::Peer;
 use ov_base::{Memory, Transport};
 use ov_model::{Attrs, PeerId};
 use std::alloc::Global;

@@ -5,7 +5,7 @@ ghost use Rattle.std.specs.HashMap.{get, spare};
 ghost use Rattle.ov_index.specs.Names.{same_name, is_name, has_name};
 
 use crate::name::{Name, remote_name, vpn4_name, vpn6_name};
-use crate::peer::Peer;
+use ov_peer::Peer;
 use ov_base::Memory;
 use std::collections::HashMap;
 

@@ -3,7 +3,7 @@
 ghost use Rattle.std.specs.Prelude.{◌≡◌, ◌<◌, Some, None, length, slice_get, slice_set, option_copied};
 ghost use Rattle.ov_index.specs.Index as specs;
 
-use crate::peer::Peer;
+use ov_peer::Peer;
 
 /// Who stands at a place.
 pub fn standing(peers: &[Option<Peer>], place: usize) -> Option<&Peer>

@@ -8,7 +8,7 @@ ghost use Rattle.ov_index.specs.Index.{key_taken};
 use super::Index;
 use crate::name::Name;
 use crate::names::{make_room, owner_of, put_all, take_all};
-use crate::peer::Peer;
+use ov_peer::Peer;
 use crate::places::{put_at, take_at};
 use ov_base::{Memory, Transport};
 use ov_keys::KeyRec;

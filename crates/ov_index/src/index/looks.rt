@@ -9,7 +9,7 @@ ghost use Rattle.ov_index.specs.Names.{has_name};
 use super::Index;
 use crate::name::{Name, remote_name, vpn_name};
 use crate::names::owner_of;
-use crate::peer::Peer;
+use ov_peer::Peer;
 use crate::places::{home_of, standing};
 use ov_base::{Addr, Transport};
 use ov_model::{Attrs, PeerId};
