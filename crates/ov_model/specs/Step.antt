@@ -23,6 +23,8 @@ use Rattle.ov_model.specs.declared.reply.Counts.{Counts}
 use Rattle.ov_model.specs.declared.reply.Errno.{Errno}
 use Rattle.ov_model.specs.declared.reply.Errno.TheVariants.{NoEntry, Exists, Invalid, NoSpace}
 use Rattle.ov_model.specs.declared.reply.HoldView.{HoldView}
+use Rattle.ov_model.specs.declared.reply.KeyView.{KeyView}
+use Rattle.ov_model.specs.declared.netlink.Cipher.TheVariants.{AesGcm}
 use Rattle.ov_model.specs.declared.reply.Settled.{Settled}
 use Rattle.ov_model.specs.declared.reply.Settled.TheVariants as settled
 use Rattle.ov_model.specs.declared.reply.Reply.{Reply}
@@ -138,6 +140,10 @@ peer_set t now a = where_found t now (reply.Refused NoEntry) (by_id a.id t.live)
 unfoldable pub peer_get : Table → ℕ → PeerId → Outcome
 peer_get t now id = where_found t now (reply.Refused NoEntry) (by_id id t.live) (λ p. replied t now (reply.Peer (view_of p)))
 
+-- peer-get of all peers: what each live peer shows, by rising id.
+unfoldable pub peer_dump : Table → ℕ → Outcome
+peer_dump t now = replied t now (reply.Peers (map view_of (by_rising_id t.live)))
+
 -- The removal of the live peers `gone`, in this order, which leaves the live peers `left`: they join the
 -- dying list, the keys of their slots join the retired ones, and one peer-del note each tells their ids and
 -- the reason.
@@ -180,6 +186,16 @@ key_new_checks t = refuse NoSpace (nat_le most_keys t.keys_made) ∷ []
 unfoldable pub key_new : Table → ℕ → KeyConf → Outcome
 key_new t now c = where_found t now (reply.Refused NoEntry) (by_id c.peer t.live)
     (λ p. unless t now (key_new_checks t) (key_made t now c p))
+
+-- What key-get shows of a key. AES-GCM is the one cipher that is taken.
+abbrev pub key_view : PeerId → Slot → Key → KeyView
+key_view id slot k = record { peer = id; slot = slot; key_id = k.key_id; cipher = AesGcm }
+
+-- key-get: what the key in a slot of the live peer with an id is called.
+unfoldable pub key_get : Table → ℕ → PeerId → Slot → Outcome
+key_get t now id slot = where_found t now (reply.Refused NoEntry) (by_id id t.live)
+    (λ p. where_found t now (reply.Refused NoEntry) (in_slot slot p.slots)
+    (λ k. replied t now (reply.Key (key_view id slot k))))
 
 -- A peer with its slots changed.
 abbrev pub with_slots : (Slots → Slots) → Peer → Peer
@@ -325,9 +341,14 @@ key_released t now serial = replied (record t { retired = without_first (has_key
 -- The step of a command.
 abbrev pub command_step : Table → ℕ → Command → Outcome
 command_step t now (command.PeerNew a) = peer_new t now a
+command_step t now (command.PeerSet a) = peer_set t now a
 command_step t now (command.PeerGet id) = peer_get t now id
+command_step t now command.PeerDump = peer_dump t now
 command_step t now (command.Remove id reason) = remove_peer t now id reason
 command_step t now (command.KeyNew c) = key_new t now c
+command_step t now (command.KeyGet id slot) = key_get t now id slot
+command_step t now (command.KeySwap id) = key_swap t now id
+command_step t now (command.KeyDel id slot) = key_del t now id slot
 
 -- The step of an act at a moment.
 abbrev pub act_step : Table → ℕ → Act → Outcome

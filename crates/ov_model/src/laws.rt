@@ -5,7 +5,7 @@ ghost use Rattle.ov_model.specs.declared.entry.Entry.{Entry};
 ghost use Rattle.ov_model.specs.Runs.{IsRun, notes_of};
 ghost use Rattle.ov_model.specs.Removals.{RemovalsNoted, AllReleased, EachReleasedOnce};
 ghost use Rattle.ov_model.specs.Keys.{KeysDiffer};
-ghost use Rattle.ov_model.specs.Laws.{OfEveryLegal, SealsUnderHeld, NoncesDiffer, AcceptsOnce};
+ghost use Rattle.ov_model.specs.Laws.{OfEveryLegal, OfEveryRouted, SealsUnderHeld, NoncesDiffer, AcceptsOnce};
 ghost use Rattle.ov_model.specs.Delivery.{DeliversExactly, DeliversReceived, DeliversOnce};
 ghost use Rattle.ov_model.specs.declared.ident.KeyId.{KeyId};
 ghost use Rattle.ov_model.specs.declared.ident.PeerId.{PeerId};
@@ -44,10 +44,10 @@ pub fn n2()
 /// The delivery law: in every legal report an answered line that received a datagram is answered with a
 /// packet of a peer exactly where its look-up held that peer and a key of it, the tag verifies under this
 /// key and this is the packet that it opens to, the line's replay step accepted the datagram's packet id
-/// under this key, and the peer with the VPN address of the packet's source was this very peer when the
-/// packet was settled. No other line is answered so.
+/// under this key, and the peer with the VPN address that is the next hop of the packet's source, by the
+/// script's routes, was this very peer when the packet was settled. No other line is answered so.
 pub fn n3()
-    ensures delivered { OfEveryLegal DeliversExactly }
+    ensures delivered { OfEveryRouted DeliversExactly }
     ensures received { OfEveryLegal DeliversReceived }
 {}
 
