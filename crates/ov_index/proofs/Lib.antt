@@ -8,3 +8,5 @@ pub mod Held
 pub mod Changed
 -- Lists that rise strictly by a number: a sort makes the one that the definition names.
 pub mod Rising
+-- What the other live peers have: the maps say it, and what they haven't a peer may take.
+pub mod Others

@@ -143,8 +143,8 @@ sorted_rises (v ∷ vs) up once =
     let least : AllByRecursion (λ w. view_id v ≤ view_id w) vs = recursion_from_All (λ w. view_id v ≤ view_id w) vs (λ k d within. up 0 (suc k) d (omega arith) (omega arith)) in
     let differ : AllByRecursion (λ w. same_view_id v w ≡ false) vs = IsDistinct-head same_view_id v vs once in
     let above : AllByRecursion (λ w. view_id v < view_id w) vs = weaker (λ w. (view_id v ≤ view_id w) × (same_view_id v w ≡ false)) (λ w. view_id v < view_id w)
-        (λ w is. let most : view_id v ≤ view_id w = is.0 in let other : (view_id v == view_id w) ≡ false = is.1 in grind (arith, nat_tests))
-        vs (both (λ w. view_id v ≤ view_id w) (λ w. same_view_id v w ≡ false) vs least differ) in
+    (λ w is. let most : view_id v ≤ view_id w = is.0 in let other : (view_id v == view_id w) ≡ false = is.1 in grind (arith, nat_tests))
+    vs (both (λ w. view_id v ≤ view_id w) (λ w. same_view_id v w ≡ false) vs least differ) in
     (above, sorted_rises vs (λ i j d le within. up (suc i) (suc j) d (omega arith) (omega arith)) (IsDistinct-tail same_view_id v vs once))
 
 flips : (v w : PeerView) → same_view_id v w ≡ same_view_id w v

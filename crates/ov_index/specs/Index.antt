@@ -1,6 +1,7 @@
 -- The live peers with the counts of all peers and keys that were ever made.
 use Rattle.std.specs.Prelude.{ℕ, ◌≡◌, List, [], ◌∷◌, Option, Some, None, slice_get, true}
-use Rattle.ov_model.specs.Tables.{Peer, Key, by_key}
+use Rattle.ov_model.specs.declared.command.Slot.{Slot}
+use Rattle.ov_model.specs.Tables.{Peer, Key, by_key, in_slot}
 use Rattle.ov_model.specs.Step.{has_key}
 use Rattle.ov_index.specs.declared.name.Name.{Name}
 use Rattle.ov_index.specs.Names.{has_name}
@@ -42,3 +43,8 @@ pub record IsIndex (owner : Name → Option ℕ) (homes : List ℕ) (slots : Lis
 abbrev pub key_taken : ℕ → Option Peer → Option Key
 key_taken key None = None
 key_taken key (Some p) = by_key key p.slots
+
+-- What stands in a slot of a peer, if there is that peer.
+abbrev pub slot_of : Slot → Option Peer → Option Key
+slot_of slot None = None
+slot_of slot (Some p) = in_slot slot p.slots
