@@ -6,3 +6,7 @@ pub mod Slots
 pub mod Held
 -- The index goes on saying the truth where one peer is changed or taken out.
 pub mod Changed
+-- Lists that rise strictly by a number: a sort makes the one that the definition names.
+pub mod Rising
+-- What the other live peers have: the maps say it, and what they haven't a peer may take.
+pub mod Others

@@ -4,8 +4,7 @@
 mod index;
 mod name;
 mod names;
-mod peer;
 mod places;
 
 pub use index::Index;
-pub use peer::Peer;
+pub use ov_peer::Peer;

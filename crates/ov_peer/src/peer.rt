@@ -1,9 +1,9 @@
 //! What the table keeps of one peer.
 
-ghost use Rattle.std.specs.Prelude.{◌≡◌, Some};
+ghost use Rattle.std.specs.Prelude.{◌≡◌, Some, None};
 ghost use Rattle.ov_model.specs.Step as model;
-ghost use Rattle.ov_model.specs.Tables.{view_of, in_slot, with_slot, by_key, without_key};
-ghost use Rattle.ov_index.specs.Index.{moved};
+ghost use Rattle.ov_model.specs.Tables.{view_of, in_slot, with_slot, swapped, by_key, without_key};
+ghost use Rattle.ov_peer.specs.Moved.{moved};
 
 use ov_base::Transport;
 use ov_keys::{KeyRec, Slots};
@@ -85,6 +85,21 @@ impl Peer {
         }
     }
 
+    /// peer-set at `now`: what is given replaces the old, the rest stays. A keepalive that is given begins anew, so
+    /// that both moments are now.
+    pub fn set(&mut self, now: u32, attrs: &Attrs)
+        ensures { self.new ≡ model.set_peer now attrs.now self.old }
+    {
+        self.remote = attrs.remote.unwrap_or(self.remote);
+        self.vpn4 = attrs.vpn4.or(self.vpn4);
+        self.vpn6 = attrs.vpn6.or(self.vpn6);
+        if let Some(keepalive) = attrs.keepalive {
+            self.keepalive = keepalive;
+            self.last_received = now;
+            self.last_sent = now;
+        }
+    }
+
     /// Puts a key into a slot, and gives what stood there.
     pub fn install(&mut self, slot: Slot, key: KeyRec) -> Option<KeyRec>
         ensures was { result ≡ in_slot slot self.old.slots }
@@ -100,6 +115,21 @@ impl Peer {
         ensures now { self.new ≡ record self.old { slots = without_key key self.old.slots } }
     {
         self.slots.kill(key)
+    }
+
+    /// Takes what stands in a slot out of it.
+    pub fn take(&mut self, slot: Slot) -> Option<KeyRec>
+        ensures was { result ≡ in_slot slot self.old.slots }
+        ensures now { self.new ≡ model.with_slots (with_slot slot None) self.old }
+    {
+        self.slots.take(slot)
+    }
+
+    /// Exchanges what stands in the two slots.
+    pub fn swap(&mut self)
+        ensures { self.new ≡ model.with_slots swapped self.old }
+    {
+        self.slots.swap();
     }
 
     /// A datagram was sent at `now`: the lengths of its inner packet and of itself, in bytes. A ping isn't
