@@ -208,74 +208,116 @@ fn a_peer_needs_an_id_in_range(rt: HostRuntime) -> Result<(), Fail> {
     Ok(())
 }
 
+/// Whether peer-new and peer-set refuse these attributes; None where they differ, or where an operation that
+/// looks at the id alone refuses them, too.
+fn is_refused(peer: NlPeer) -> Option<bool> {
+    if of_peer(NlOp::PeerGet, peer).is_err() || of_peer(NlOp::PeerDel, peer).is_err() {
+        return None;
+    }
+    match (of_peer(NlOp::PeerNew, peer), of_peer(NlOp::PeerSet, peer)) {
+        (Err(Errno::Invalid), Err(Errno::Invalid)) => Some(true),
+        (Ok(_), Ok(_)) => Some(false),
+        _ => None,
+    }
+}
+
+/// The peer with other remote attributes.
+fn with_remote(v4: Option<[u8; 4]>, v6: Option<[u8; 16]>, port: Option<u32>) -> NlPeer {
+    NlPeer {
+        remote_ipv4: v4,
+        remote_ipv6: v6,
+        remote_port: port,
+        ..PEER
+    }
+}
+
+/// The peer with other local attributes.
+fn with_local(v4: Option<[u8; 4]>, v6: Option<[u8; 16]>, port: Option<u32>) -> NlPeer {
+    NlPeer {
+        local_ipv4: v4,
+        local_ipv6: v6,
+        local_port: port,
+        ..PEER
+    }
+}
+
+/// The peer with other keepalive times.
+fn with_keepalive(interval: Option<u32>, timeout: Option<u32>) -> NlPeer {
+    NlPeer {
+        keepalive_interval: interval,
+        keepalive_timeout: timeout,
+        ..PEER
+    }
+}
+
+/// An IPv4 address of documentation (RFC 5737).
+const NEAR: Option<[u8; 4]> = Some([192, 0, 2, 1]);
+
+/// An IPv6 address of documentation (RFC 3849).
+const FAR: Option<[u8; 16]> = Some(OUTSIDE);
+
 #[test]
-fn attributes_of_a_peer_are_in_range_and_together(rt: HostRuntime) -> Result<(), Fail> {
+fn a_remote_is_one_address_with_its_port(rt: HostRuntime) -> Result<(), Fail> {
+    // The addresses of both families, the port, and whether they are refused.
     let rows = [
-        // Two remote addresses.
-        NlPeer {
-            remote_ipv6: Some(OUTSIDE),
-            ..PEER
-        },
-        // A scope.
-        NlPeer {
-            remote_ipv6_scope_id: Some(1),
-            ..PEER
-        },
-        // A port without an address, and an address of each family without a port.
-        NlPeer {
-            remote_ipv4: None,
-            ..PEER
-        },
-        NlPeer {
-            remote_port: None,
-            ..PEER
-        },
-        NlPeer {
-            remote_ipv4: None,
-            remote_ipv6: Some(OUTSIDE),
-            remote_port: None,
-            ..PEER
-        },
-        // Ports that are none.
-        NlPeer {
-            remote_port: Some(0),
-            ..PEER
-        },
-        NlPeer {
-            remote_port: Some(65536),
-            ..PEER
-        },
-        // Two local addresses.
-        NlPeer {
-            local_ipv6: Some(OUTSIDE),
-            ..PEER
-        },
-        NlPeer {
-            local_port: Some(0),
-            ..PEER
-        },
-        NlPeer {
-            local_port: Some(65536),
-            ..PEER
-        },
-        // Half a keepalive.
-        NlPeer {
-            keepalive_interval: None,
-            ..PEER
-        },
-        NlPeer {
-            keepalive_timeout: None,
-            ..PEER
-        },
+        (NEAR, None, Some(1), false),
+        (None, FAR, Some(65535), false),
+        (None, None, None, false),
+        (NEAR, FAR, Some(1), true),
+        (None, None, Some(1), true),
+        (NEAR, None, None, true),
+        (None, FAR, None, true),
+        (NEAR, None, Some(0), true),
+        (NEAR, None, Some(65536), true),
     ];
-    for (number, peer) in rows.into_iter().enumerate() {
-        for op in [NlOp::PeerNew, NlOp::PeerSet] {
-            assert!(rt; of_peer(op, peer) == Err(Errno::Invalid), "row {number}");
-        }
-        // The other operations look at the id alone.
-        for op in [NlOp::PeerGet, NlOp::PeerDel] {
-            assert!(rt; of_peer(op, peer).is_ok(), "row {number}");
-        }
+    for (number, (v4, v6, port, refused)) in rows.into_iter().enumerate() {
+        assert!(rt;
+            is_refused(with_remote(v4, v6, port)) == Some(refused),
+            "row {number}"
+        );
+    }
+    let scope = NlPeer {
+        remote_ipv6_scope_id: Some(1),
+        ..PEER
+    };
+    assert_eq!(rt; is_refused(scope), Some(true));
+    Ok(())
+}
+
+#[test]
+fn a_local_address_is_one_and_needs_no_port(rt: HostRuntime) -> Result<(), Fail> {
+    // The addresses of both families, the port, and whether they are refused.
+    let rows = [
+        (NEAR, None, None, false),
+        (None, FAR, Some(65535), false),
+        (None, None, Some(1), false),
+        (NEAR, FAR, None, true),
+        (NEAR, None, Some(0), true),
+        (NEAR, None, Some(65536), true),
+    ];
+    for (number, (v4, v6, port, refused)) in rows.into_iter().enumerate() {
+        assert!(rt;
+            is_refused(with_local(v4, v6, port)) == Some(refused),
+            "row {number}"
+        );
+    }
+    Ok(())
+}
+
+#[test]
+fn a_keepalive_has_both_its_times(rt: HostRuntime) -> Result<(), Fail> {
+    // The interval, the timeout, and whether they are refused.
+    let rows = [
+        (Some(0), Some(0), false),
+        (None, None, false),
+        (Some(10), None, true),
+        (None, Some(30), true),
+    ];
+    for (number, (interval, timeout, refused)) in rows.into_iter().enumerate() {
+        assert!(rt;
+            is_refused(with_keepalive(interval, timeout)) == Some(refused),
+            "row {number}"
+        );
     }
     Ok(())
 }
