@@ -1,7 +1,7 @@
 -- Worked examples of the definitions, each computed from them: the replay rule at its edges, a datagram as a
 -- client of OpenVPN sends it, inner packets, the messages of the netlink family, and the peer table's refusals.
 -- The datagram's bytes are those that another implementation of AES-GCM makes of the same key and packet.
-use Rattle.std.specs.Prelude.{ℕ, ◌≡◌, List, [], ◌∷◌, Bool, true, false, Option, Some, None, Result, Ok, Err, ◌==◌, replicate}
+use Rattle.std.specs.Prelude.{ℕ, ◌≡◌, List, [], ◌∷◌, Option, Some, None, Ok, Err, replicate}
 use Rattle.ov_aes.specs.declared.key_bytes.KeyBytes.TheVariants.{K16}
 use Rattle.ov_base.specs.declared.address.Addr.TheVariants.{V4}
 use Rattle.ov_base.specs.declared.address.Transport.{Transport}
@@ -10,28 +10,25 @@ use Rattle.ov_model.specs.declared.ident.KeyId.{KeyId}
 use Rattle.ov_model.specs.declared.act.Act.TheVariants as act
 use Rattle.ov_model.specs.declared.command.Attrs.{Attrs}
 use Rattle.ov_model.specs.declared.command.KeyDir.{KeyDir}
-use Rattle.ov_model.specs.declared.command.Command.{Command}
 use Rattle.ov_model.specs.declared.command.Command.TheVariants as command
 use Rattle.ov_model.specs.declared.command.Reason.TheVariants.{Userspace}
 use Rattle.ov_model.specs.declared.command.Slot.TheVariants.{Primary}
 use Rattle.ov_model.specs.declared.netlink.NlMessage.{NlMessage}
 use Rattle.ov_model.specs.declared.netlink.NlPeer.{NlPeer}
-use Rattle.ov_model.specs.declared.netlink.NlKeyConf.{NlKeyConf}
 use Rattle.ov_model.specs.declared.netlink.NlKeyDir.{NlKeyDir}
 use Rattle.ov_model.specs.declared.netlink.NlOp.{NlOp}
 use Rattle.ov_model.specs.declared.netlink.NlOp.TheVariants as op
 use Rattle.ov_model.specs.declared.netlink.Cipher.{Cipher}
 use Rattle.ov_model.specs.declared.netlink.Cipher.TheVariants.{NoCipher, AesGcm, ChaCha20Poly1305}
-use Rattle.ov_model.specs.declared.reply.Errno.{Errno}
-use Rattle.ov_model.specs.declared.reply.Errno.TheVariants.{NoEntry, Exists, Invalid, NoSpace, NotSupported}
+use Rattle.ov_model.specs.declared.reply.Errno.TheVariants.{Exists, Invalid, NoSpace, NotSupported}
 use Rattle.ov_model.specs.declared.reply.Reply.TheVariants as reply
 use Rattle.ov_model.specs.declared.replay.Verdict.TheVariants.{Accept, Zero, Old, Below, Again}
 use Rattle.ov_model.specs.Checked.{checked}
 use Rattle.ov_model.specs.Ident.{peer_id, key_id}
 use Rattle.ov_model.specs.Packets.{short, data_v1, control, data_v2, head_of, datagram, opened, v4, v6, not_ip, inner_of, ping, kind_of, keepalive}
 use Rattle.ov_model.specs.Replay.{Accepted, verdict_of}
-use Rattle.ov_model.specs.Step.{Outcome, peer_of, hold_of, peer_new, step}
-use Rattle.ov_model.specs.Tables.{Key, Peer, Slots, Table, empty_table}
+use Rattle.ov_model.specs.Step.{peer_of, hold_of, peer_new, step}
+use Rattle.ov_model.specs.Tables.{Key, Peer, Table, empty_table}
 
 -- ---- the replay rule
 

@@ -63,9 +63,11 @@ fn same_bits_v6(length: u32, prefix: [u8; 16], address: [u8; 16]) -> bool
     if length > 128 {
         return false;
     }
+    let prefix = u128::from_be_bytes(prefix);
+    let address = u128::from_be_bytes(address);
     if length == 0 {
         return true;
     }
     let past = 128 - length;
-    u128::from_be_bytes(prefix) >> past == u128::from_be_bytes(address) >> past
+    prefix >> past == address >> past
 }
