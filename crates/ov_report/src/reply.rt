@@ -31,7 +31,8 @@ fn append_peer(page: &mut Vec<u8>, peer: &PeerView) -> Result<(), Memory>
 {
     append(page, b"{\"peer\":")?;
     append_view(page, peer)?;
-    append(page, b"}")
+    append(page, b"}")?;
+    Ok(())
 }
 
 /// Puts what peer-get shows of each of some peers.
@@ -41,7 +42,8 @@ fn append_peers(page: &mut Vec<u8>, peers: &[PeerView]) -> Result<(), Memory>
 {
     append(page, b"{\"peers\":[")?;
     append_views(page, peers)?;
-    append(page, b"}")
+    append(page, b"}")?;
+    Ok(())
 }
 
 /// The word of a slot.
@@ -74,7 +76,8 @@ fn append_key(page: &mut Vec<u8>, key: &KeyView) -> Result<(), Memory>
     append_number(page, b"\",\"key-id\":", key.key_id.get() as u64)?;
     append_number(page, b",\"peer-id\":", key.peer.get() as u64)?;
     append_word(page, b",\"slot\":\"", slot_name(key.slot))?;
-    append(page, b"\"}}")
+    append(page, b"\"}}")?;
+    Ok(())
 }
 
 /// Puts the serials of removed peers.

@@ -4,7 +4,7 @@ ghost use Rattle.std.specs.Prelude.{◌≡◌, ◌++◌, OnOk, false, map};
 ghost use Rattle.std.specs.Net.Text.{ipv4_text};
 ghost use Rattle.hex.specs.Hex.{encode_lower};
 ghost use Rattle.serde_json.specs.View.{items_of};
-ghost use Rattle.serde_json.specs.Written.{compact_text, items_text};
+ghost use Rattle.serde_json.specs.Written.{comma_if, compact_text, items_text};
 ghost use Rattle.ov_report.specs.Print as spec;
 ghost use Rattle.ov_report.specs.Views as views;
 
@@ -123,6 +123,16 @@ pub(crate) fn append_view(page: &mut Vec<u8>, peer: &PeerView) -> Result<(), Mem
     Ok(())
 }
 
+/// Puts a comma, where something stands before.
+fn append_comma(page: &mut Vec<u8>, later: bool) -> Result<(), Memory>
+    ensures { OnOk result (page.new.items ≡ page.old.items ++ comma_if later) }
+{
+    if later {
+        append(page, b",")?;
+    }
+    Ok(())
+}
+
 /// Puts what peer-get shows of each of some peers, with the bracket that closes the list.
 pub(crate) fn append_views(page: &mut Vec<u8>, peers: &[PeerView]) -> Result<(), Memory>
     ensures { OnOk result (page.new.items ≡ page.old.items
@@ -130,9 +140,7 @@ pub(crate) fn append_views(page: &mut Vec<u8>, peers: &[PeerView]) -> Result<(),
 {
     let mut later = false;
     for peer in peers {
-        if later {
-            append(page, b",")?;
-        }
+        append_comma(page, later)?;
         append_view(page, peer)?;
         later = true;
     }
