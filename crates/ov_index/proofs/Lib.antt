@@ -10,3 +10,7 @@ pub mod Changed
 pub mod Rising
 -- What the other live peers have: the maps say it, and what they haven't a peer may take.
 pub mod Others
+-- A member of a list with holes that is taken out, changed and put back at its place.
+pub mod Back
+-- A list of those that are gone goes on saying the truth of its places as one joins and one is taken out.
+pub mod Listed
