@@ -23,6 +23,7 @@ use Rattle.ov_model.specs.declared.line.Line.{Line}
 use Rattle.ov_model.specs.declared.line.Deed.{Deed}
 use Rattle.ov_model.specs.declared.line.Deed.TheVariants as deed
 use Rattle.ov_model.specs.declared.line.Script.{Script}
+use Rattle.ov_model.specs.declared.report.LaneLog.{LaneLog}
 use Rattle.ov_model.specs.declared.report.Report.{Report}
 use Rattle.ov_model.specs.Ident.{peer_id, key_id}
 use Rattle.ov_model.specs.Tables.{Material, empty_table}
@@ -115,6 +116,24 @@ sealed_row material via place line ss js s (by_round r) = record {
   looked = ap (λ (l : List Step). slice_get l 0) r.steps_are;
 }
 
+-- What the row of a sealed line says of the report.
+row_shows : (report : Report) (lane line : ℕ) (s : SealedOut) (log : LaneLog) (its : Line) → slice_get report.lanes lane ≡ Some log → slice_get log.lines line ≡ Some its
+    → SealedRow (key_of report.journal) (record { lane = lane; line = line }) its (of (steps_of report.journal) lane line) s → SealedUnder report lane line s
+row_shows report lane line s log its log_is its_is row =
+    let step : Step = step_of (record { lane = lane; line = line }) its.at row.look (reply.Hold row.h) [] in
+    let found = step_entry empty_table report.journal lane line 0 step row.looked in
+    record {
+      packet = row.seals.packet;
+      sends = record { log = log; log_is = log_is; its = its; its_is = its_is; deed_is = row.seals.sends };
+      hold = row.h;
+      held = record { n = found.n; entry = step.entry; made = record { at = found.at; place = refl }; held = refl };
+      key_is = ap (λ (o : SealedOut). o.key) row.seals.sealed;
+      to_is = ap (λ (o : SealedOut). o.to) row.seals.sealed;
+      material = row.m;
+      material_is = row.m_is;
+      datagram_is = ap (λ (o : SealedOut). o.datagram) row.seals.sealed;
+    }
+
 pub sealed_under : (script : Script) (first : ℕ) (report : Report) → Legal script first report → (lane line : ℕ) (s : SealedOut) → IsSealed report lane line s → SealedUnder report lane line s
 sealed_under script first report legal lane line s at =
     let via : Addr → Addr = via_of script.routes in
@@ -124,16 +143,4 @@ sealed_under script first report legal lane line s at =
     let its : Some meets.answer ≡ Some (answer.Sealed s) = sym meets.answer_is ∙ x.at in
     let same : meets.answer ≡ answer.Sealed s = cc in
     let P : Answer → Type 0 = Path (key_of report.journal) via place meets.line (of (steps_of report.journal) lane line) (shown_in report.shards lane line) in
-    let row : SealedRow (key_of report.journal) place meets.line (of (steps_of report.journal) lane line) s = sealed_row (key_of report.journal) via place meets.line _ _ s (subst P same meets.path) in
-    let found = step_entry empty_table report.journal lane line 0 (step_of place meets.line.at row.look (reply.Hold row.h) []) row.looked in
-    record {
-      packet = row.seals.packet;
-      sends = record { log = x.log; log_is = x.log_is; its = meets.line; its_is = meets.line_is; deed_is = row.seals.sends };
-      hold = row.h;
-      held = record { n = found.n; entry = (step_of place meets.line.at row.look (reply.Hold row.h) []).entry; made = record { at = found.at; place = refl }; held = refl };
-      key_is = ap (λ (o : SealedOut). o.key) row.seals.sealed;
-      to_is = ap (λ (o : SealedOut). o.to) row.seals.sealed;
-      material = row.m;
-      material_is = row.m_is;
-      datagram_is = ap (λ (o : SealedOut). o.datagram) row.seals.sealed;
-    }
+    row_shows report lane line s x.log meets.line x.log_is meets.line_is (sealed_row (key_of report.journal) via place meets.line _ _ s (subst P same meets.path))

@@ -12,7 +12,7 @@ ghost use Rattle.ov_model.specs.declared.ident.PeerId.{PeerId};
 ghost use Rattle.ov_model.specs.Ident.{peer_id, key_id};
 ghost use Rattle.ov_model.specs.Lifetime.{PeersStayReleased, KeysStayReleased};
 ghost use Rattle.ov_model.specs.Tables.{Key};
-ghost use Rattle.ov_model.specs.Examples.{WindowExamples, DatagramExamples, InnerExamples, MessageExamples, NewExamples, LookExamples, IdExamples};
+ghost use Rattle.ov_model.specs.Examples.{WindowExamples, DatagramExamples, InnerExamples, MessageExamples, NewExamples, SetExamples, SlotExamples, DumpExamples, LookExamples, IdExamples, ViaExamples, RouteExample};
 
 /// In every run the notes of each removal are those of the removed peers, in order, with the reason,
 /// and no peer is removed twice. Each entry that killed a key has exactly one key-swap note, no other entry
@@ -69,7 +69,8 @@ pub fn n4()
 
 /// Worked examples of the definitions, each computed from them: where the replay window ends and where a gap
 /// makes a floor, what a datagram and an inner packet are read as, how a datagram opens and doesn't, what
-/// becomes of a message of each operation, the refusals of peer-new in their order, and the look-ups.
+/// becomes of a message of each operation, the refusals of peer-new in their order, what peer-set replaces and
+/// refuses, the operations on slots, the order of a dump, the look-ups, and the next hop by routes.
 pub fn examples()
     ensures window { WindowExamples }
     ensures datagrams { DatagramExamples }
@@ -78,6 +79,12 @@ pub fn examples()
     ensures messages { (id : PeerId) (key : KeyId) → peer_id 5 ≡ Some id → key_id 2 ≡ Some key →
         MessageExamples id key }
     ensures new { (id other : PeerId) → (id.number == other.number) ≡ false → NewExamples id other }
+    ensures set { (id other : PeerId) (k : Key) → (id.number == other.number) ≡ false →
+        SetExamples id other k }
+    ensures slots { (id : PeerId) (k l : Key) → SlotExamples id k l }
+    ensures dump { (id other : PeerId) → id.number ≡ 5 → other.number ≡ 6 → DumpExamples id other }
     ensures looks { (id : PeerId) (k l : Key) → (id.number == 16777215) ≡ false →
         (k.key_id.number == l.key_id.number) ≡ false → LookExamples id k l }
+    ensures via { ViaExamples }
+    ensures route { (id : PeerId) (k : Key) → RouteExample id k }
 {}
