@@ -5,9 +5,8 @@ mod gone;
 mod index;
 mod name;
 mod names;
-mod peer;
 mod places;
 
 pub use gone::{Gone, Numbered};
 pub use index::Index;
-pub use peer::Peer;
+pub use ov_peer::Peer;

@@ -1,9 +1,15 @@
 //! The places of a list with holes.
 
-ghost use Rattle.std.specs.Prelude.{◌≡◌, ◌<◌, ◌≤◌, Some, None, length, slice_get, slice_set, option_copied};
+ghost use Rattle.std.specs.Prelude.{◌≡◌, ◌<◌, ◌≤◌, Some, None, length, slice_get, slice_set, option_copied, map, IfOk};
 ghost use Rattle.std.specs.Vec.{vec_capacity};
+ghost use Rattle.ov_model.specs.Tables.{view_of};
 ghost use Rattle.ov_index.specs.Index as specs;
 ghost use Rattle.ov_index.specs.Gone.{holes_in_front};
+
+use ov_base::Memory;
+use ov_model::PeerView;
+use ov_peer::Peer;
+use std::alloc::Global;
 
 /// Who stands at a place.
 pub fn standing<T>(slots: &[Option<T>], place: usize) -> Option<&T>
@@ -50,4 +56,17 @@ pub fn home_of(homes: &[u32], key: u32) -> Option<u32>
     ensures { result ≡ slice_get homes.now key }
 {
     homes.get(key as usize).copied()
+}
+
+/// What those show who stand at the places, in their order. `Err` is want of memory.
+pub fn views_of(alloc: Global, peers: &[Option<Peer>]) -> Result<Vec<PeerView>, Memory>
+    ensures { IfOk result (λ views. views.items ≡ map view_of (specs.present peers.now)) }
+{
+    let mut views = Vec::new(alloc);
+    for slot in peers {
+        if let Some(peer) = slot {
+            views.push(peer.view())?;
+        }
+    }
+    Ok(views)
 }

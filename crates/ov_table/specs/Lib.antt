@@ -1,4 +1,5 @@
 pub mod Apart
 pub mod Recorded
+pub mod Cells
 pub mod Outcomes
 pub mod Pairs

@@ -5,10 +5,10 @@ ghost use Rattle.ov_model.specs.Step as model;
 ghost use Rattle.ov_model.specs.Tables.{change_first, has_serial};
 
 use super::{Gone, Numbered, place_in};
-use crate::peer::Peer;
 use crate::places::{put_at, take_at};
 use ov_keys::KeyRec;
 use ov_model::Settled;
+use ov_peer::Peer;
 
 impl Numbered for Peer {
     ghost serial_of = { λ p. p.serial };

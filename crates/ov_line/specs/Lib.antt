@@ -1,0 +1,6 @@
+pub mod Values
+pub mod Grammar
+pub mod Outcome
+pub mod Forms
+pub mod Compact
+pub mod Digits
