@@ -8,14 +8,15 @@ use Rattle.ov_model.specs.declared.ident.PeerId.{PeerId}
 use Rattle.ov_model.specs.declared.command.Attrs.{Attrs}
 use Rattle.ov_model.specs.declared.command.KeyConf.{KeyConf}
 use Rattle.ov_model.specs.declared.command.Reason.{Reason}
+use Rattle.ov_model.specs.declared.command.Slot.{Slot}
 use Rattle.ov_model.specs.declared.command.Command.TheVariants as command
 use Rattle.ov_model.specs.declared.act.Act.{Act}
 use Rattle.ov_model.specs.declared.act.Act.TheVariants as act
 use Rattle.ov_model.specs.declared.reply.Reply.TheVariants as reply
 use Rattle.ov_model.specs.declared.reply.Settled.{Settled}
 use Rattle.ov_model.specs.Limits.{most_keys}
-use Rattle.ov_model.specs.Tables.{Peer, Key, Table, change_first, without_first, has_id, has_serial, serials_of, in_slot, key_if_any, keys_in, keys_of, key_serials, by_id, by_serial, by_key}
-use Rattle.ov_model.specs.Step.{Outcome, unless, key_new_checks, key_made, removals, spent_key, spend, key_new, sent_peer, received_peer, settled_peer, act_step, may_act}
+use Rattle.ov_model.specs.Tables.{Peer, Key, Table, change_first, without_first, has_id, has_serial, serials_of, in_slot, key_if_any, keys_in, keys_of, key_serials, by_id, by_serial, by_key, swapped, with_slot}
+use Rattle.ov_model.specs.Step.{Outcome, unless, key_new_checks, key_made, slots_changed, removals, spent_key, spend, key_new, sent_peer, received_peer, settled_peer, act_step, may_act}
 use Rattle.ov_model.specs.Path.{removed}
 use Rattle.ov_model.specs.Removals.{times, released_by, key_released_by}
 use Rattle.ov_model.specs.Lifetime.{peer_made_by, key_made_by}
@@ -28,7 +29,7 @@ use Rattle.ov_model.proofs.Tallies.{found_stands, found_slots}
 use Rattle.ov_model.proofs.Times.{times-append, times_first}
 use Rattle.ov_table.specs.Apart.{Apart}
 use Rattle.ov_index.proofs.Held.{length_without}
-use Rattle.ov_table.proofs.Outcomes.{some_of, any_found, removed_found, key_new_found, spent_found}
+use Rattle.ov_table.proofs.Outcomes.{some_of, any_found, removed_found, key_new_found, swap_found, del_found, spent_found}
 
 -- No serial of a peer or of a key stands twice.
 abbrev pub ApartIn : Table → Type 0
@@ -120,6 +121,14 @@ key_apart t now c p found room apart =
     let is : unless t now (key_new_checks t) (key_made t now c p) ≡ key_made t now c p = rw room refl in
     subst (λ (o : Outcome). ApartIn o.after) (key_new_found t now c p found ∙ is) (apart_after t now (act.Do (command.KeyNew c)) refl apart)
 
+-- The keys of a live peer change places.
+pub swap_apart : (t : Table) (now : ℕ) (id : PeerId) (p : Peer) → by_id id t.live ≡ Some p → ApartIn t → ApartIn (slots_changed t now id swapped []).after
+swap_apart t now id p found apart = subst (λ (o : Outcome). ApartIn o.after) (swap_found t now id p found) (apart_after t now (act.Do (command.KeySwap id)) refl apart)
+
+-- The key of a slot is taken out.
+pub del_apart : (t : Table) (now : ℕ) (id : PeerId) (slot : Slot) (p : Peer) → by_id id t.live ≡ Some p → ApartIn t → ApartIn (slots_changed t now id (with_slot slot None) (key_if_any (in_slot slot p.slots))).after
+del_apart t now id slot p found apart = subst (λ (o : Outcome). ApartIn o.after) (del_found t now id slot p found) (apart_after t now (act.Do (command.KeyDel id slot)) refl apart)
+
 -- A new peer, which has no keys.
 keys_of_more : (ps : List Peer) (p : Peer) → keys_in p.slots ≡ [] → keys_of (ps ++ p ∷ []) ≡ keys_of ps
 keys_of_more [] p none = rw none refl
@@ -167,6 +176,14 @@ replaced_apart t now c p more found room apart above =
     let some : List ℕ = key_serials (key_if_any (in_slot c.slot p.slots)) in
     part (slot_serials t.live) (key_serials t.retired) some t.keys_made more (rw (← keys_serials t.live) apart.1)
     (λ x. let turn : Turns x t a (key_made t now c p) = subst (Turns x t a) is (turns x t now a) in turn.taken_live) above
+
+-- The one that is deleted.
+pub deleted_apart : (t : Table) (now : ℕ) (id : PeerId) (slot : Slot) (p : Peer) (more : ℕ) → by_id id t.live ≡ Some p → ApartIn t → t.keys_made ≤ more → Apart (key_serials (key_if_any (in_slot slot p.slots))) (key_serials t.retired) more
+deleted_apart t now id slot p more found apart above =
+    let a : Act = act.Do (command.KeyDel id slot) in
+    let gone : List Key = key_if_any (in_slot slot p.slots) in
+    part (slot_serials t.live) (key_serials t.retired) (key_serials gone) t.keys_made more (rw (← keys_serials t.live) apart.1)
+    (λ x. let turn : Turns x t a (slots_changed t now id (with_slot slot None) gone) = subst (Turns x t a) (del_found t now id slot p found) (turns x t now a) in turn.taken_live) above
 
 -- The one that is spent.
 pub spent_joins : (fits : Peer → Bool) (live : List Peer) (retired : List Key) (made more : ℕ) (p : Peer) (key : ℕ) (k : Key) → find fits live ≡ Some p → by_key key p.slots ≡ Some k → Apart (key_serials (keys_of live)) (key_serials retired) made → made ≤ more → MayJoin (λ (k : Key). k.serial) k.serial retired more
