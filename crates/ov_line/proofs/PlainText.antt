@@ -131,7 +131,7 @@ utf8_decimal n h = IsUtf8-from_ascii _ (IsAscii-decimal n (omega arith))
 with_dot_utf8 : (n : ℕ) (rest : List ℕ) → n < 256 → IsUtf8 rest → IsUtf8 (decimal n ++ 46 ∷ rest)
 with_dot_utf8 n rest h same = IsUtf8-append _ _ (utf8_decimal n h) (IsUtf8-append (46 ∷ []) rest (IsUtf8-are_ascii _ refl) same)
 
-flat_dotted : (a b c d : ℕ) → dotted_text a b c d ≡ decimal a ++ 46 ∷ (decimal b ++ 46 ∷ (decimal c ++ 46 ∷ decimal d))
+pub flat_dotted : (a b c d : ℕ) → dotted_text a b c d ≡ decimal a ++ 46 ∷ (decimal b ++ 46 ∷ (decimal c ++ 46 ∷ decimal d))
 flat_dotted a b c d = simp append_assoc refl
 
 pub escape_dotted : (text octets : List ℕ) → IsDotted text octets → (escape text ≡ text) × IsUtf8 text

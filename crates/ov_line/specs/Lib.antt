@@ -1,5 +1,6 @@
 pub mod Values
-pub mod Keyconf
 pub mod Grammar
+pub mod Outcome
+pub mod Forms
 pub mod Compact
 pub mod Digits
