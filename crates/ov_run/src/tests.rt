@@ -14,6 +14,7 @@ use ov_base::{ListOf, Memory, MemorySink, MemorySource, Octets, Sink};
 use ov_plan::About;
 use ov_script::Limit;
 use std::alloc::Global;
+use std::process::Abort;
 use std::test::Fail;
 
 const PEER5: &str =
@@ -111,26 +112,28 @@ fn a_bad_line_or_another_word_runs_nothing(rt: HostRuntime) -> Result<(), Fail> 
     Ok(())
 }
 
+/// A run with these words, which are no plan's, reads and writes nothing; its status is 1, and it tells the usage.
+fn tells_usage(rt: &impl Abort, alloc: Global, words: &[&str]) -> Result<(), Fail> {
+    let (ended, written) = ran(alloc, words, PEER5.as_bytes(), &[], &[])?;
+    assert_eq!(rt; ended.status(), 1);
+    assert_eq!(rt; ended.read_lines, 0);
+    assert!(rt; ended.report.is_none());
+    assert!(rt; written.is_empty());
+    let mut sink = MemorySink::new(alloc, 16, ListOf::new(alloc));
+    assert_eq!(rt; tell(ended.cause, &mut sink), Ok(()));
+    assert_eq!(rt;
+        sink.written(),
+        b"ovpn: usage: ovpn MODE [options]\n".as_slice()
+    );
+    Ok(())
+}
+
 #[test]
 fn words_without_a_plan_run_nothing_and_tell_the_usage(rt: HostRuntime) -> Result<(), Fail> {
-    for words in [
-        [].as_slice(),
-        ["trace", "--lanes", "0"].as_slice(),
-        ["steps", "--schedule", "0,,1"].as_slice(),
-        ["--help"].as_slice(),
-    ] {
-        let (ended, written) = ran(rt.alloc(), words, PEER5.as_bytes(), &[], &[])?;
-        assert_eq!(rt; ended.status(), 1);
-        assert_eq!(rt; ended.read_lines, 0);
-        assert!(rt; ended.report.is_none());
-        assert!(rt; written.is_empty());
-        let mut sink = MemorySink::new(rt.alloc(), 16, ListOf::new(rt.alloc()));
-        assert_eq!(rt; tell(ended.cause, &mut sink), Ok(()));
-        assert_eq!(rt;
-            sink.written(),
-            b"ovpn: usage: ovpn MODE [options]\n".as_slice()
-        );
-    }
+    tells_usage(&rt, rt.alloc(), &[])?;
+    tells_usage(&rt, rt.alloc(), &["trace", "--lanes", "0"])?;
+    tells_usage(&rt, rt.alloc(), &["steps", "--schedule", "0,,1"])?;
+    tells_usage(&rt, rt.alloc(), &["--help"])?;
     Ok(())
 }
 
