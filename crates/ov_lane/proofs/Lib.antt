@@ -1,0 +1,6 @@
+-- What a step under the lock leaves to link, to unlink and to release.
+pub mod Stepping
+-- One release after another: each is of what is on its way out and owed, and leaves the rest so.
+pub mod Releasing
+-- What a command leaves to the seat: once all of it is linked and unlinked, the releases of what nobody holds.
+pub mod Settling
