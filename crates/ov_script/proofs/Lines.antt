@@ -1,7 +1,7 @@
 -- Which lines pieces say, and where a list of pieces has its first bad one.
 use Rattle.std.proofs.Common.{◌≡◌, ◌∙◌, ℕ, suc, ◌+◌, ◌<◌, ◌==◌, false, List, [], ◌∷◌, ◌++◌, length, refl, sym, ap, subst, append_assoc, append-nil, arith}
 use Rattle.ov_model.specs.declared.line.Line.{Line}
-use Rattle.ov_script.specs.Grammar.{Says}
+use Rattle.ov_line.specs.Grammar.{Says}
 use Rattle.ov_script.specs.Reading.{Cut, cut, line_first, AreLines, AreGood, IsFirstBad, last_line}
 
 -- One more piece says one more line.

@@ -7,10 +7,10 @@ use Rattle.ov_model.specs.declared.line.Line.{Line}
 use Rattle.ov_script.specs.declared.script.ReadStop.{ReadStop}
 use Rattle.ov_script.specs.declared.script.ReadStop.TheVariants as stop
 use Rattle.ov_script.specs.declared.script.Limit.TheVariants.{Bytes}
-use Rattle.ov_script.specs.Grammar.{Says}
+use Rattle.ov_line.specs.Grammar.{Says}
 use Rattle.ov_script.specs.Reading.{most_bytes, cut, last_line, ended_lines, whole_lines, counted_lines, AreLines, IsFirstBad, IsFirst, Event, bad_line, passed, Early, Stop, HasNoStop, Gave, IsTold, stop_of, HasRead}
 use Rattle.ov_script.proofs.Lines.{none_bad}
-use Rattle.ov_script.proofs.Options.{some_same}
+use Rattle.ov_line.proofs.Options.{some_same}
 use Rattle.ov_script.proofs.Judging.{ended_whole, no_stop, stops_known, rose_known, not_early_known}
 
 -- A first bad piece stays the first with others behind.

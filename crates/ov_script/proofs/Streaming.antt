@@ -10,9 +10,9 @@ use Rattle.std.proofs.Math.Seq.{take-append-add}
 use Rattle.ov_base.specs.Outside.{Rose}
 use Rattle.ov_model.specs.declared.line.Line.{Line}
 use Rattle.ov_script.specs.Reading.{Cut, cut, most_bytes, ended_lines, whole_lines, counted_lines, last_line, AreLines, AreGood, IsFirstBad, Reads, Judges, HasRead, line_stop}
-use Rattle.ov_script.specs.Grammar.{Says}
-use Rattle.ov_script.specs.declared.line.LineStop.{LineStop}
-use Rattle.ov_script.specs.declared.line.LineStop.TheVariants as line
+use Rattle.ov_line.specs.Grammar.{Says}
+use Rattle.ov_line.specs.declared.line.LineStop.{LineStop}
+use Rattle.ov_line.specs.declared.line.LineStop.TheVariants as line
 use Rattle.ov_script.specs.declared.script.ReadStop.{ReadStop}
 use Rattle.ov_script.specs.declared.script.ReadStop.TheVariants as stop
 use Rattle.ov_script.specs.declared.script.Limit.TheVariants.{Bytes}

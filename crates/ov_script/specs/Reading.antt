@@ -4,13 +4,13 @@ use Rattle.std.specs.Io.KnownBytes.{Consumes, IsAtEnd}
 use Rattle.ov_base.specs.Outside.{Rose}
 use Rattle.ov_model.specs.declared.line.Line.{Line}
 use Rattle.ov_model.specs.declared.line.Script.{Script}
-use Rattle.ov_script.specs.declared.line.LineStop.{LineStop}
-use Rattle.ov_script.specs.declared.line.LineStop.TheVariants as line
+use Rattle.ov_line.specs.declared.line.LineStop.{LineStop}
+use Rattle.ov_line.specs.declared.line.LineStop.TheVariants as line
 use Rattle.ov_script.specs.declared.script.Limit.{Limit}
 use Rattle.ov_script.specs.declared.script.Limit.TheVariants.{Bytes}
 use Rattle.ov_script.specs.declared.script.ReadStop.{ReadStop}
 use Rattle.ov_script.specs.declared.script.ReadStop.TheVariants as stop
-use Rattle.ov_script.specs.Grammar.{Says}
+use Rattle.ov_line.specs.Grammar.{Says}
 
 -- The most bytes that a script has.
 unfoldable pub most_bytes : ℕ

@@ -2,11 +2,11 @@
 
 ghost use Rattle.std.specs.Prelude.{◌≡◌, ◌+◌, ◌<◌, ◌++◌, ◌∷◌, [], ℕ, List, length, IfOk, IfErr, IfSome, OnOk, OnErr, MatchOption};
 ghost use Rattle.ov_model.specs.declared.line.Line.{Line};
-ghost use Rattle.ov_script.specs.Grammar.{Says};
+ghost use Rattle.ov_line.specs.Grammar.{Says};
 ghost use Rattle.ov_script.specs.Reading as spec;
 
-use crate::line::{LineStop, read_line};
 use memchr::memchr;
+use ov_line::{LineStop, read_line};
 use ov_model::Line;
 use std::alloc::Global;
 

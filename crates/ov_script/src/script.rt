@@ -7,9 +7,9 @@ ghost use Rattle.ov_base.specs.Outside.{Rose};
 ghost use Rattle.ov_model.specs.Sizes.{Fits};
 ghost use Rattle.ov_script.specs.Reading as spec;
 
-use crate::line::LineStop;
 use crate::pieces::{read_last, read_piece};
 use ov_base::{Got, ListOf, Source};
+use ov_line::LineStop;
 use ov_model::{Line, Script};
 use std::alloc::{AllocError, Global};
 use thiserror::Error;

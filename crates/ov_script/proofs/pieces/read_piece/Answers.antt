@@ -1,7 +1,7 @@
 -- What a piece ends is read, and what it doesn't end is kept.
 use Rattle.std.proofs.Common.{◌∙◌, ◌+◌, length}
 use Rattle.ov_script.specs.Reading as spec
-use Rattle.ov_script.proofs.Options.{handed_on, none_of}
+use Rattle.ov_line.proofs.Options.{handed_on, none_of}
 use Rattle.ov_script.proofs.Streaming.{piece_held, good_before, of_piece, rest_on}
 use Rattle.ov_script.proofs.pieces.read_piece.Goals as goal
 

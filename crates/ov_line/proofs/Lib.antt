@@ -1,0 +1,18 @@
+-- A line that bytes say is as short as the grammar says.
+pub mod Fitting
+-- Values of plain numbers and texts: their compact text reads as the value.
+pub mod PlainText
+-- The compact text of a line that sends a packet says the line.
+pub mod TxText
+-- The compact text of a line by which a datagram comes says the line.
+pub mod RxText
+-- The compact text of a line that makes a peer says the line.
+pub mod PeerText
+-- The compact text of a line that makes a key says the line.
+pub mod KeyText
+-- Digits by lanes: what a lane computes is what its digit stands for, and pairs of lanes are the bytes.
+pub mod HexLanes
+-- Facts on the names of objects.
+pub mod Names
+-- Facts on options and answers that the grammar's parts share.
+pub mod Options

@@ -1,0 +1,14 @@
+-- What the definition calls the text is the text that was parsed.
+use Rattle.std.proofs.Common.{◌≡◌, ◌∙◌, sym, subst, ℕ, List}
+use Rattle.std.specs.Net.Grammar.{IsDotted}
+use Rattle.serde_json.specs.View.{view}
+use Rattle.ov_line.specs.Values as spec
+use Rattle.ov_line.proofs.Options.{some_same}
+use Rattle.ov_line.proofs.member.address_at.Goals as goal
+
+pub returns-in-Err : goal.returns-in-Err
+returns-in-Err c =
+    λ (octets : List ℕ) (h : spec.IsAddressAt c.args.name.now (view c.args.value.now) octets).
+    let same : h.text ≡ c.in_ok-text.text.now = some_same _ _ (sym h.given ∙ sym c.in_ok-text.ensures) in
+    let P : List ℕ → Type 0 = λ text. IsDotted text octets in
+    c.in-Err.ensures (record { octets = octets }) (subst P (same ∙ sym c.as_bytes.ensures.value) h.dotted)

@@ -1,0 +1,5 @@
+pub mod Values
+pub mod Keyconf
+pub mod Grammar
+pub mod Compact
+pub mod Digits

@@ -1,0 +1,24 @@
+//! The line that bytes say: the grammar of lines, both ways.
+#![tactic(auto)]
+
+pub mod compact;
+pub mod compact_key;
+pub mod compact_peer;
+pub mod compact_rx;
+pub mod compact_tx;
+pub mod digits;
+pub mod grammar;
+pub mod keyconf;
+pub mod line;
+#[cfg(test)]
+mod line_tests;
+pub mod member;
+#[cfg(test)]
+mod odd_lines_tests;
+#[cfg(test)]
+mod packet_tests;
+pub mod packets;
+pub mod parts;
+
+pub use line::{LineStop, read_line};
+pub use packets::{MOST_DATAGRAM, MOST_PACKET};
