@@ -2,5 +2,11 @@
 //! unlinks of the cells and the releases that it owes.
 #![tactic(auto)]
 
+mod dealing;
+mod ovpn;
+mod pass;
 mod ticket;
 mod within;
+
+pub use ovpn::{Closed, Ovpn};
+pub use pass::Pass;
