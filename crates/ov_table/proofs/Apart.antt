@@ -1,6 +1,6 @@
 -- No serial stands twice in a table, after a step as before it.
-use Rattle.std.proofs.Common.{ℕ, ◌+◌, ◌<◌, ◌≤◌, ◌≡◌, ◌∙◌, refl, ap, sym, subst, List, [], ◌∷◌, ◌++◌, length, Bool, true, false, if◌then◌else◌, ◌==◌, arith, inl, inr}
-use Rattle.std.specs.Prelude.{map, find, Some, None, nat_le}
+use Rattle.std.proofs.Common.{ℕ, ◌+◌, ◌<◌, ◌≤◌, ◌≡◌, ◌∙◌, refl, ap, sym, subst, List, [], ◌∷◌, ◌++◌, length, Bool, true, false, if◌then◌else◌, ◌==◌, ◌||◌, arith, append-nil, append_assoc, inl, inr, ◌⊎◌}
+use Rattle.std.specs.Prelude.{map, find, Option, Some, None, nat_le}
 use Rattle.std.specs.List.{list_any}
 use Rattle.std.proofs.lemmas.Bool.{cases_eq, eq-eqb, ne_eqb}
 use Rattle.std.proofs.lemmas.List.{map-append}
@@ -15,13 +15,13 @@ use Rattle.ov_model.specs.declared.act.Act.TheVariants as act
 use Rattle.ov_model.specs.declared.reply.Reply.TheVariants as reply
 use Rattle.ov_model.specs.declared.reply.Settled.{Settled}
 use Rattle.ov_model.specs.Limits.{most_keys}
-use Rattle.ov_model.specs.Tables.{Peer, Key, Table, change_first, without_first, has_id, serials_of, in_slot, with_slot, swapped, key_if_any, keys_in, keys_of, key_serials, by_id, by_serial, by_key}
-use Rattle.ov_model.specs.Step.{Outcome, unless, key_new_checks, key_made, removals, spent_key, spend, key_new, key_swap, key_del, slots_changed, set_peer, sent_peer, received_peer, settled_peer, act_step, may_act}
+use Rattle.ov_model.specs.Tables.{Peer, Key, Table, change_first, without_first, has_id, has_serial, serials_of, in_slot, key_if_any, keys_in, keys_of, key_serials, by_id, by_serial, by_key, swapped, with_slot}
+use Rattle.ov_model.specs.Step.{Outcome, unless, key_new_checks, key_made, slots_changed, removals, spent_key, spend, key_new, sent_peer, received_peer, settled_peer, act_step, may_act}
 use Rattle.ov_model.specs.Path.{removed}
 use Rattle.ov_model.specs.Removals.{times, released_by, key_released_by}
 use Rattle.ov_model.specs.Lifetime.{peer_made_by, key_made_by}
 use Rattle.ov_model.proofs.Firsts.{is_of, map_changed, counts_without}
-use Rattle.ov_model.proofs.Freed.{act_balance}
+use Rattle.ov_model.proofs.Freed.{Balance, act_balance}
 use Rattle.ov_model.proofs.KeysTaken.{slot_serials, peer_keys, MakesNext, Turns, turns}
 use Rattle.ov_model.proofs.Removing.{Spends, spend_spends}
 use Rattle.ov_model.proofs.Shapes.{Name, Kept, settled_kept}
@@ -29,7 +29,7 @@ use Rattle.ov_model.proofs.Tallies.{found_stands, found_slots}
 use Rattle.ov_model.proofs.Times.{times-append, times_first}
 use Rattle.ov_table.specs.Apart.{Apart}
 use Rattle.ov_index.proofs.Held.{length_without}
-use Rattle.ov_table.proofs.Outcomes.{some_of, any_found, removed_found, key_new_found, spent_found}
+use Rattle.ov_table.proofs.Outcomes.{some_of, any_found, removed_found, key_new_found, swap_found, del_found, spent_found}
 
 -- No serial of a peer or of a key stands twice.
 abbrev pub ApartIn : Table → Type 0
@@ -121,6 +121,14 @@ key_apart t now c p found room apart =
     let is : unless t now (key_new_checks t) (key_made t now c p) ≡ key_made t now c p = rw room refl in
     subst (λ (o : Outcome). ApartIn o.after) (key_new_found t now c p found ∙ is) (apart_after t now (act.Do (command.KeyNew c)) refl apart)
 
+-- The keys of a live peer change places.
+pub swap_apart : (t : Table) (now : ℕ) (id : PeerId) (p : Peer) → by_id id t.live ≡ Some p → ApartIn t → ApartIn (slots_changed t now id swapped []).after
+swap_apart t now id p found apart = subst (λ (o : Outcome). ApartIn o.after) (swap_found t now id p found) (apart_after t now (act.Do (command.KeySwap id)) refl apart)
+
+-- The key of a slot is taken out.
+pub del_apart : (t : Table) (now : ℕ) (id : PeerId) (slot : Slot) (p : Peer) → by_id id t.live ≡ Some p → ApartIn t → ApartIn (slots_changed t now id (with_slot slot None) (key_if_any (in_slot slot p.slots))).after
+del_apart t now id slot p found apart = subst (λ (o : Outcome). ApartIn o.after) (del_found t now id slot p found) (apart_after t now (act.Do (command.KeyDel id slot)) refl apart)
+
 -- A new peer, which has no keys.
 keys_of_more : (ps : List Peer) (p : Peer) → keys_in p.slots ≡ [] → keys_of (ps ++ p ∷ []) ≡ keys_of ps
 keys_of_more [] p none = rw none refl
@@ -153,21 +161,6 @@ spent_apart t now peer key p k found has apart =
           omega arith)),
     )
 
--- The slots of a live peer are changed.
-swap_found : (t : Table) (now : ℕ) (id : PeerId) (p : Peer) → by_id id t.live ≡ Some p → key_swap t now id ≡ slots_changed t now id swapped []
-unfolding key_swap
-swap_found t now id p found = rw found refl
-
-del_found : (t : Table) (now : ℕ) (id : PeerId) (slot : Slot) (p : Peer) → by_id id t.live ≡ Some p → key_del t now id slot ≡ slots_changed t now id (with_slot slot None) (key_if_any (in_slot slot p.slots))
-unfolding key_del
-del_found t now id slot p found = rw found refl
-
-pub swapped_apart : (t : Table) (now : ℕ) (id : PeerId) (p : Peer) → by_id id t.live ≡ Some p → ApartIn t → ApartIn (slots_changed t now id swapped []).after
-swapped_apart t now id p found apart = subst (λ (o : Outcome). ApartIn o.after) (swap_found t now id p found) (apart_after t now (act.Do (command.KeySwap id)) refl apart)
-
-pub deleted_apart : (t : Table) (now : ℕ) (id : PeerId) (slot : Slot) (p : Peer) → by_id id t.live ≡ Some p → ApartIn t → ApartIn (slots_changed t now id (with_slot slot None) (key_if_any (in_slot slot p.slots))).after
-deleted_apart t now id slot p found apart = subst (λ (o : Outcome). ApartIn o.after) (del_found t now id slot p found) (apart_after t now (act.Do (command.KeyDel id slot)) refl apart)
-
 -- ---- keys that leave their slots
 
 -- Those of a peer.
@@ -185,12 +178,12 @@ replaced_apart t now c p more found room apart above =
     (λ x. let turn : Turns x t a (key_made t now c p) = subst (Turns x t a) is (turns x t now a) in turn.taken_live) above
 
 -- The one that is deleted.
-pub slot_apart : (t : Table) (now : ℕ) (id : PeerId) (slot : Slot) (p : Peer) (more : ℕ) → by_id id t.live ≡ Some p → ApartIn t → t.keys_made ≤ more → Apart (key_serials (key_if_any (in_slot slot p.slots))) (key_serials t.retired) more
-slot_apart t now id slot p more found apart above =
+pub deleted_apart : (t : Table) (now : ℕ) (id : PeerId) (slot : Slot) (p : Peer) (more : ℕ) → by_id id t.live ≡ Some p → ApartIn t → t.keys_made ≤ more → Apart (key_serials (key_if_any (in_slot slot p.slots))) (key_serials t.retired) more
+deleted_apart t now id slot p more found apart above =
     let a : Act = act.Do (command.KeyDel id slot) in
-    let o : Outcome = slots_changed t now id (with_slot slot None) (key_if_any (in_slot slot p.slots)) in
-    part (slot_serials t.live) (key_serials t.retired) (key_serials (key_if_any (in_slot slot p.slots))) t.keys_made more (rw (← keys_serials t.live) apart.1)
-    (λ x. let turn : Turns x t a o = subst (Turns x t a) (del_found t now id slot p found) (turns x t now a) in turn.taken_live) above
+    let gone : List Key = key_if_any (in_slot slot p.slots) in
+    part (slot_serials t.live) (key_serials t.retired) (key_serials gone) t.keys_made more (rw (← keys_serials t.live) apart.1)
+    (λ x. let turn : Turns x t a (slots_changed t now id (with_slot slot None) gone) = subst (Turns x t a) (del_found t now id slot p found) (turns x t now a) in turn.taken_live) above
 
 -- The one that is spent.
 pub spent_joins : (fits : Peer → Bool) (live : List Peer) (retired : List Key) (made more : ℕ) (p : Peer) (key : ℕ) (k : Key) → find fits live ≡ Some p → by_key key p.slots ≡ Some k → Apart (key_serials (keys_of live)) (key_serials retired) made → made ≤ more → MayJoin (λ (k : Key). k.serial) k.serial retired more
@@ -213,9 +206,6 @@ keys_kept fits change (p ∷ ps) keeps =
 
 pub sent_kept : (now inner outer : ℕ) (ping : Bool) (p : Peer) → Kept p (sent_peer now inner outer ping p)
 sent_kept now inner outer ping p = record { name = refl; slots = refl }
-
-pub set_kept : (now : ℕ) (a : Attrs) (p : Peer) → Kept p (set_peer now a p)
-set_kept now a p = record { name = refl; slots = refl }
 
 pub dying_kept : (now inner outer : ℕ) (s : Settled) (p : Peer) → Kept p (settled_peer s inner (received_peer now outer p))
 dying_kept now inner outer s p = let k = settled_kept s inner (received_peer now outer p) in record { name = k.name; slots = k.slots }

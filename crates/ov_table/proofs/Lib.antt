@@ -1,7 +1,7 @@
--- No serial stands twice in a table, after a step as before it.
-pub mod Apart
 -- What a step makes of each cell, and that a lock lets it.
 pub mod Becoming
+-- No serial stands twice in a table, after a step as before it.
+pub mod Apart
 -- The key that a look-up holds is still in the table after that step.
 pub mod Held
 -- Each key that a told table still has is as the journal's key-new with its serial installed it.
