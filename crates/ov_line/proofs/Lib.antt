@@ -22,3 +22,5 @@ pub mod Words
 pub mod Fitting
 -- Bytes say one line at most.
 pub mod Unique
+-- The text of an object goes on name by name.
+pub mod Putting

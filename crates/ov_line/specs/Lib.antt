@@ -2,5 +2,6 @@ pub mod Values
 pub mod Grammar
 pub mod Outcome
 pub mod Forms
+pub mod Text
 pub mod Compact
 pub mod Digits
