@@ -1,18 +1,16 @@
 -- What the other live peers have: the maps say it, and what they haven't a peer may take.
-use Rattle.std.proofs.Common.{ℕ, ◌≡◌, ◌∙◌, refl, ap, sym, subst, List, ◌∷◌, [], Bool, true, false, cond, if◌then◌else◌, ◌==◌, ◌||◌, arith, inl, inr, ◌⊎◌}
+use Rattle.std.proofs.Common.{ℕ, ◌≡◌, ◌∙◌, refl, ap, sym, subst, List, Bool, true, false, cond, ◌==◌, inl, inr, ◌⊎◌}
 use Rattle.std.specs.Prelude.{Option, Some, None, find, slice_get, slice_set, is_some, not, unwrap_or}
 use Rattle.std.specs.List.{list_any}
 use Rattle.std.specs.Option.{option_or}
-use Rattle.std.proofs.lemmas.Bool.Decides.{nat_tests}
-use Rattle.ov_base.specs.declared.address.Transport.{Transport}
 use Rattle.ov_model.specs.declared.ident.PeerId.{PeerId}
 use Rattle.ov_model.specs.declared.command.Attrs.{Attrs}
-use Rattle.ov_model.specs.Tables.{Peer, has_id, by_remote, same_vpn, shares_vpn}
+use Rattle.ov_model.specs.Tables.{Peer, same_vpn, shares_vpn}
 use Rattle.ov_model.specs.Step.{others, set_peer, takes_remote}
 use Rattle.ov_index.specs.declared.name.Host.TheVariants.{V4, V6}
 use Rattle.ov_index.specs.declared.name.Name.{Name}
 use Rattle.ov_index.specs.declared.name.Name.TheVariants.{Id, Vpn, Remote}
-use Rattle.ov_index.specs.Names.{has_name, remote_name}
+use Rattle.ov_index.specs.Names.{has_name}
 use Rattle.ov_index.specs.Index.{present, standing, IsIndex}
 use Rattle.ov_index.proofs.Slots.{standing_at, standing_is}
 use Rattle.ov_index.proofs.Held.{Owner, Homes, Places, named_at, named_nowhere, shares_is, neither, vpn_free, remote_free}

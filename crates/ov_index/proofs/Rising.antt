@@ -1,7 +1,7 @@
 -- Lists that rise strictly by a number: two with the same members are one, and a sort of members whose numbers differ
 -- makes the one that the definition names by insertion.
-use Rattle.std.proofs.Common.{zero, suc, ◌+◌, ◌<◌, ◌≤◌, ℕ, ◌≡◌, ◌∙◌, refl, ap, ap₂, sym, subst, List, [], ◌∷◌, length, Bool, true, false, if◌then◌else◌, ◌==◌, arith, inl, inr, ◌⊎◌}
-use Rattle.std.specs.Prelude.{⊤, Option, Some, None, map, nat_lt, slice_get}
+use Rattle.std.proofs.Common.{zero, suc, ◌<◌, ◌≤◌, ℕ, ◌≡◌, ◌∙◌, refl, ap₂, sym, subst, List, [], ◌∷◌, Bool, true, false, if◌then◌else◌, ◌==◌, arith, inl, inr, ◌⊎◌}
+use Rattle.std.specs.Prelude.{⊤, Some, None, map, nat_lt, slice_get}
 use Rattle.std.specs.List.{AllByRecursion, IsDistinct}
 use Rattle.std.specs.List.Sorted.{IsPermutation, IsNonDecreasingBy}
 use Rattle.std.proofs.lemmas.Bool.Decides.{nat_tests}
@@ -10,7 +10,6 @@ use Rattle.std.proofs.lemmas.List.Elements.{All-from_recursion, recursion_from_A
 use Rattle.std.proofs.lemmas.Map.Keys.{IsDistinct-head, IsDistinct-tail, IsDistinct-cons, IsDistinct-IsPermutation}
 use Rattle.ov_model.specs.Tables.{Peer, view_of, put_by_id, by_rising_id}
 use Rattle.ov_model.specs.declared.reply.PeerView.{PeerView}
-use Rattle.ov_index.specs.Names.{has_name}
 use Rattle.ov_index.specs.Index.{present, IsIndex}
 use Rattle.ov_index.specs.declared.name.Name.TheVariants.{Id}
 use Rattle.ov_index.proofs.Held.{Owner, Homes, Places}

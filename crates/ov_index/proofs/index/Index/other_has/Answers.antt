@@ -1,13 +1,10 @@
 use Rattle.std.proofs.Common.{rules, sym, ap, ◌≡◌, ◌∙◌}
-use Rattle.std.specs.Prelude.{Option, Some, None, find}
+use Rattle.std.specs.Prelude.{Some, None, find}
 use Rattle.std.specs.HashMap.{get}
-use Rattle.std.specs.List.{list_any}
-use Rattle.ov_model.specs.Tables.{Peer}
-use Rattle.ov_model.specs.Step.{others}
 use Rattle.ov_index.specs.Names.{same_name, has_name}
 use Rattle.ov_index.specs.Index.{present}
 use Rattle.ov_index.proofs.Held.{named, named_none}
-use Rattle.ov_index.proofs.Others.{other_named, is_other}
+use Rattle.ov_index.proofs.Others.{other_named}
 use Rattle.ov_index.proofs.index.Index.other_has.Goals as goal
 
 pub returns-in_default : goal.returns-in_default

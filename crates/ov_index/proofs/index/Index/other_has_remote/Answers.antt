@@ -1,8 +1,7 @@
-use Rattle.std.proofs.Common.{rules, sym, ap, ◌∙◌, ◌≡◌, false, true, if◌then◌else◌}
-use Rattle.std.specs.Prelude.{Some}
+use Rattle.std.proofs.Common.{ap, ◌∙◌, ◌≡◌}
 use Rattle.std.specs.List.{list_any}
 use Rattle.ov_base.specs.Address.{same_transport}
-use Rattle.ov_model.specs.Step.{others, takes_remote}
+use Rattle.ov_model.specs.Step.{others}
 use Rattle.ov_index.specs.Names.{has_name, remote_name}
 use Rattle.ov_index.proofs.Held.{remote_same, any_is}
 use Rattle.ov_index.proofs.index.Index.other_has_remote.Goals as goal

@@ -1,4 +1,4 @@
-use Rattle.std.proofs.Common.{rules, sym}
+use Rattle.std.proofs.Common.{sym}
 use Rattle.ov_model.specs.Step.{others}
 use Rattle.ov_index.proofs.Held.{vpn_nobody}
 use Rattle.ov_index.proofs.index.Index.other_has_vpn4.Goals as goal

@@ -1,16 +1,14 @@
-use Rattle.std.proofs.Common.{rules, sym, ◌∙◌, ap, ◌≡◌, ◌<◌, ◌+◌, length, subst, refl, Bool, true, false, List, cond}
-use Rattle.std.specs.Prelude.{Option, Some, None, vec_len, slice_set}
+use Rattle.std.proofs.Common.{rules, sym, ◌∙◌, ap, ◌≡◌, ◌<◌, length}
+use Rattle.std.specs.Prelude.{Some, None, vec_len, slice_set}
 use Rattle.std.specs.HashMap.{get}
-use Rattle.std.specs.List.{list_any}
-use Rattle.ov_model.specs.Tables.{Peer, Slots, change_first, has_id, by_id, shares_vpn, with_slot, swapped}
-use Rattle.ov_model.specs.Step.{others, set_peer, takes_remote, with_slots}
+use Rattle.ov_model.specs.Tables.{Peer, change_first, has_id, with_slot}
+use Rattle.ov_model.specs.Step.{with_slots}
 use Rattle.ov_index.specs.declared.name.Name.TheVariants.{Id}
-use Rattle.ov_index.specs.Names.{same_name, has_name}
-use Rattle.ov_index.specs.Index.{Indexed, present, standing, slot_of}
+use Rattle.ov_index.specs.Names.{same_name}
+use Rattle.ov_index.specs.Index.{Indexed, present, slot_of}
 use Rattle.ov_index.proofs.Slots.{set_set, standing_at, standing_within}
-use Rattle.ov_index.proofs.Held.{named_at, named_nowhere, standing_there, same_index, length_changed}
-use Rattle.ov_index.proofs.Changed.{renamed, no_more_keys, key_swapped, key_of_emptied, id_changed, id_nowhere}
-use Rattle.ov_index.proofs.Others.{set_free}
+use Rattle.ov_index.proofs.Held.{named_at, named_nowhere, length_changed}
+use Rattle.ov_index.proofs.Changed.{no_more_keys, key_of_emptied, id_changed, id_nowhere}
 use Rattle.ov_index.proofs.index.Index.take_key.Goals as goal
 
 pub returns-in_default-clause-was : goal.returns-in_default-clause-was
