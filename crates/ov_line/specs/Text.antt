@@ -1,14 +1,13 @@
 -- The canonical text of a line: a compact JSON object (RFC 8259) with exactly the names that have a value, in
 -- ascending byte order at each level, and digits in lower case.
-use Rattle.std.specs.Prelude.{◌≡◌, ◌≤◌, ◌<◌, ℕ, List, [], ◌∷◌, ◌++◌, length, codes, Bool, IsTrue, IfSome, Option, Some, None, option_map, ⊤}
+use Rattle.std.specs.Prelude.{◌≡◌, ℕ, List, [], ◌∷◌, ◌++◌, codes, Bool, Option, Some, None, option_map}
 use Rattle.std.specs.Net.Text.{ipv4_text}
-use Rattle.hex.specs.Hex.{encode_lower, IsBytes}
+use Rattle.hex.specs.Hex.{encode_lower}
 use Rattle.serde_json.specs.Data.{Data, string, number, unsigned, object, Members, no_members, member}
 use Rattle.serde_json.specs.Written.{compact_text, members_text}
 use Rattle.ov_base.specs.declared.address.Addr.{Addr}
 use Rattle.ov_base.specs.declared.address.Addr.TheVariants.{V4, V6}
 use Rattle.ov_base.specs.declared.address.Transport.{Transport}
-use Rattle.ov_model.specs.Limits.{longest_packet, longest_datagram}
 use Rattle.ov_model.specs.declared.ident.PeerId.{PeerId}
 use Rattle.ov_model.specs.declared.command.Reason.{Reason}
 use Rattle.ov_model.specs.declared.command.Reason.TheVariants as reason
@@ -18,9 +17,7 @@ use Rattle.ov_model.specs.declared.line.Deed.TheVariants as deed
 use Rattle.ov_model.specs.declared.netlink.NlPeer.{NlPeer}
 use Rattle.ov_model.specs.declared.netlink.NlKeyDir.{NlKeyDir}
 use Rattle.ov_model.specs.declared.netlink.NlKeyConf.{NlKeyConf}
-use Rattle.ov_model.specs.declared.netlink.NlMessage.{NlMessage}
-use Rattle.ov_line.specs.Values.{most_number, has_only}
-use Rattle.ov_line.specs.Grammar.{op_word, deed_word, slot_word, cipher_word, message_names, peer_names, conf_names, most_key_bytes}
+use Rattle.ov_line.specs.Grammar.{op_word, slot_word, cipher_word}
 
 -- A name of an object, with its value where it has one.
 abbrev pub Field : Type 0
