@@ -17,7 +17,7 @@ use Rattle.ov_model.specs.Events.{Step, Judged, Drew, GaveKey, GavePeer, Judgeme
 use Rattle.ov_model.specs.Next.{see, stand_of, judged_as}
 use Rattle.ov_model.specs.Replay.{judged}
 use Rattle.ov_model.specs.Step.{is_there, is_retired}
-use Rattle.ov_model.proofs.Lanes.{judged_in}
+use Rattle.ov_model.specs.Lanes.{judged_in}
 use Rattle.ov_path.specs.Desks.{Holding, NoHold, Both, PeerLeft, HoldsKey, LeftPeer, IsLooked, peer_left, owed_if}
 use Rattle.ov_replay.specs.History.{History}
 use Rattle.ov_core.specs.declared.mark.Mark.{Mark}

@@ -31,7 +31,7 @@ use Rattle.ov_model.specs.Replay.{ShardJudges, IsJudged}
 use Rattle.ov_model.specs.Step.{step, act_step, May}
 use Rattle.ov_model.specs.Tables.{Table}
 use Rattle.ov_model.proofs.KeysTaken.{turns}
-use Rattle.ov_model.proofs.Lanes.{judged_in}
+use Rattle.ov_model.specs.Lanes.{judged_in}
 use Rattle.ov_model.proofs.ReplayLemmas.{ShardJudges-push, IsJudged-judged}
 use Rattle.ov_model.proofs.Tallies.{key_stands, key_room}
 use Rattle.ov_path.specs.Desks.{Holding, NoHold, Both, PeerLeft, held_after, peer_left, stepped_as, HoldsKey, LeftPeer, IsLooked, IsDrawn, IsJudged as IsAccepted, IsSpent, MayCall, first_owed}

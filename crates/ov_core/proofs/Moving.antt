@@ -16,11 +16,11 @@ use Rattle.ov_model.specs.Step.{step}
 use Rattle.ov_model.specs.Runs.{last_table}
 use Rattle.ov_model.specs.Events.{Event, Stepped, Judged, Drew, GaveKey, GavePeer, Step, judgement_of, steps_of, steps_in, judgements_in}
 use Rattle.ov_model.specs.Keys.{key_of, key_by}
-use Rattle.ov_model.specs.Lanes.{LaneRuns}
+use Rattle.ov_model.specs.Lanes.{LaneRuns, judged_in}
 use Rattle.ov_model.specs.Own.{mine, mine_judged, mine_shards}
 use Rattle.ov_model.specs.Path.{Path}
 use Rattle.ov_model.proofs.Going.{steps_after-append}
-use Rattle.ov_model.proofs.Lanes.{Knows, judged_in, own_steps, own_judged, line_done, lane_knows, rise_judged}
+use Rattle.ov_model.proofs.Lanes.{Knows, own_steps, own_judged, line_done, lane_knows, rise_judged}
 use Rattle.ov_model.proofs.Mine.{mine_own, mine_other, shards_own, shards_other}
 use Rattle.ov_table.specs.Recorded.{Recorded, stepped, entry_of}
 use Rattle.ov_core.specs.Worlds.{Seat}

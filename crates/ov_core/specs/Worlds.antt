@@ -22,7 +22,7 @@ use Rattle.ov_model.specs.Limits.{shard_count}
 use Rattle.ov_model.specs.Next.{Ask, Table, Replay, Draw, GiveKey, GivePeer, Nil, Over, next as next_of_line}
 use Rattle.ov_model.specs.Path.{removed}
 use Rattle.ov_model.specs.Replay.{judged}
-use Rattle.ov_model.proofs.Lanes.{judged_in}
+use Rattle.ov_model.specs.Lanes.{judged_in}
 use Rattle.ov_path.specs.Desks.{Holding, NoHold, Both, PeerLeft, View, held_after, peer_left, owed_if, after_first, stepped_as}
 use Rattle.ov_table.specs.Recorded.{Recorded, no_steps, stepped}
 

@@ -1,6 +1,6 @@
 -- The worked examples, by computing from the definitions.
-use Rattle.std.proofs.Common.{ℕ, ◌≡◌, ◌≤◌, ◌∙◌, List, [], ◌∷◌, refl, sym, ap, arith, Bool, false, ◌==◌}
-use Rattle.std.specs.Prelude.{Option, Some, None}
+use Rattle.std.proofs.Common.{ℕ, ◌≡◌, ◌≤◌, ◌∙◌, List, [], ◌∷◌, refl, sym, ap, arith, true, false, ◌==◌}
+use Rattle.std.specs.Prelude.{Option, Some, None, nat_lt}
 use mathlib.Core.Logic.{dite}
 use native.Mathlib.Decide.{dec_le}
 use Rattle.std.proofs.lemmas.Bool.{eq-eqb}
@@ -17,10 +17,10 @@ use Rattle.ov_model.specs.Checked.{checked}
 use Rattle.ov_model.specs.Ident.{peer_id, key_id}
 use Rattle.ov_model.specs.Packets.{datagram, opened, keepalive}
 use Rattle.ov_model.specs.Replay.{before_gap, floor_of, verdict_of}
-use Rattle.ov_model.specs.Step.{peer_new, peer_get, tx_look, rx_look}
+use Rattle.ov_model.specs.Step.{peer_new, peer_set, peer_get, peer_dump, key_get, key_swap, key_del, tx_look, rx_look}
 use Rattle.ov_model.specs.Tables.{Key}
 use Rattle.ov_model.proofs.PeerIds.{peer_id_of}
-use Rattle.ov_model.specs.Examples.{WindowExamples, DatagramExamples, InnerExamples, MessageExamples, NewExamples, LookExamples, IdExamples}
+use Rattle.ov_model.specs.Examples.{WindowExamples, DatagramExamples, InnerExamples, MessageExamples, NewExamples, SetExamples, SlotExamples, DumpExamples, LookExamples, IdExamples, ViaExamples, RouteExample}
 
 pub window_examples : WindowExamples
 unfolding before_gap floor_of verdict_of
@@ -69,12 +69,22 @@ message_examples id key is key_is = record {
   peer_new = rw is refl;
   peer_get = rw is refl;
   peer_del = rw is refl;
+  peer_set = rw is refl;
+  peer_dump = refl;
+  key_get = rw is refl;
+  key_swap = rw is refl;
+  key_del = rw is refl;
   key_new = rw (is, key_is) refl;
   no_id = refl;
   two_remotes = rw is refl;
   no_address = rw is refl;
   port_0 = rw is refl;
   half_keepalive = rw is refl;
+  set_port_0 = rw is refl;
+  no_slot = rw is refl;
+  no_slot_to_empty = rw is refl;
+  no_peer = refl;
+  no_key = refl;
   short_key = rw (is, key_is) refl;
   none_cipher = rw (is, key_is) refl;
   other_cipher = rw (is, key_is) refl;
@@ -92,6 +102,52 @@ new_examples id other differ = record {
   no_space = rw differ refl;
   last_one = rw differ refl;
 }
+
+pub set_examples : (id other : PeerId) (k : Key) → (id.number == other.number) ≡ false → SetExamples id other k
+unfolding peer_set
+set_examples id other k differ =
+    let own = eq-eqb id.number id.number refl in
+    let second = eq-eqb other.number other.number refl in
+    record {
+      vpn_taken = rw own refl;
+      remote_taken = rw own refl;
+      by_the_second = rw (differ, second) refl;
+      refused_stays = rw own refl;
+      nobody = refl;
+      own = rw own refl;
+      own_stays = rw own refl;
+      given = rw own refl;
+      keepalive = rw own refl;
+    }
+
+pub slot_examples : (id : PeerId) (k l : Key) → SlotExamples id k l
+unfolding key_get key_swap key_del tx_look
+slot_examples id k l =
+    let own = eq-eqb id.number id.number refl in
+    record {
+      swap = rw own refl;
+      no_key = rw own refl;
+      swap_both = rw own refl;
+      swap_takes_none = rw own refl;
+      get = rw own refl;
+      get_empty = rw own refl;
+      del = rw own refl;
+      del_leaves = rw own refl;
+      del_takes = rw own refl;
+      del_retires = rw own refl;
+      del_empty = rw own refl;
+      del_empty_takes = rw own refl;
+      swap_nobody = refl;
+      get_nobody = refl;
+      del_nobody = refl;
+    }
+
+pub dump_examples : (id other : PeerId) → id.number ≡ 5 → other.number ≡ 6 → DumpExamples id other
+unfolding peer_dump
+dump_examples id other five six =
+    let below : nat_lt id.number other.number ≡ true = rw (five, six) refl in
+    let above : nat_lt other.number id.number ≡ false = rw (five, six) refl in
+    record { none = refl; as_made = rw below refl; other_way = rw above refl }
 
 pub look_examples : (id : PeerId) (k l : Key) → (id.number == 16777215) ≡ false → (k.key_id.number == l.key_id.number) ≡ false → LookExamples id k l
 unfolding tx_look rx_look peer_get
@@ -119,3 +175,31 @@ five id is =
 
 pub id_examples : IdExamples
 id_examples = record { five = five; no_25_bits = past_greatest; no_4_bits = past_greatest_key }
+
+pub via_examples : ViaExamples
+via_examples = record {
+  no_routes = refl;
+  one = refl;
+  elsewhere = refl;
+  long_first = refl;
+  long_last = refl;
+  short_alone = refl;
+  later = refl;
+  hop = refl;
+  hop_itself = refl;
+  all = refl;
+  other_family = refl;
+  past = refl;
+  last_bit = refl;
+  next_bit = refl;
+  whole = refl;
+  too_long = refl;
+  of_v6 = refl;
+  not_v6 = refl;
+  whole_v6 = refl;
+  too_long_v6 = refl;
+}
+
+pub route_example : (id : PeerId) (k : Key) → RouteExample id k
+unfolding tx_look
+route_example id k = record { looked_up = refl; held = refl; no_peer = refl; kind = refl; delivered = refl; not_owner = refl }

@@ -1,6 +1,6 @@
 -- The first member of a list that fits: it is found, changed, or taken out.
 use Rattle.std.proofs.Common.{ℕ, ◌≡◌, ◌+◌, List, [], ◌∷◌, refl, ap, subst, Bool, true, false, arith, if◌then◌else◌, ◌==◌, ◌||◌, sym, ◌∙◌, inl, inr, ◌⊎◌}
-use Rattle.std.specs.Prelude.{map, find, Option, Some}
+use Rattle.std.specs.Prelude.{map, find, Some}
 use Rattle.std.specs.List.{AllByRecursion, list_any}
 use Rattle.std.proofs.lemmas.Bool.{cases_eq, eq-eqb, ne_eqb}
 use Rattle.ov_base.specs.Sums.{total}

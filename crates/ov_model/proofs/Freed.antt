@@ -1,5 +1,5 @@
 -- A run without a dying peer or a retired key at its end let each of them go exactly once.
-use Rattle.std.proofs.Common.{ℕ, ◌≡◌, ◌+◌, ◌<◌, ◌≤◌, ◌↔◌, suc, List, [], ◌∷◌, refl, sym, ap, ◌∙◌, length, Bool, true, false, arith, ◌==◌, ◌||◌, inl, inr}
+use Rattle.std.proofs.Common.{ℕ, ◌≡◌, ◌+◌, ◌<◌, ◌≤◌, ◌↔◌, List, [], ◌∷◌, refl, Bool, true, false, arith, inl, inr}
 use Rattle.std.specs.Prelude.{map}
 use Rattle.std.proofs.lemmas.Bool.{cases_lt, eq-eqb}
 use Rattle.ov_model.specs.declared.act.Act.{Act}

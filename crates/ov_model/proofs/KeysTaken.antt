@@ -1,13 +1,12 @@
 -- Of each serial of a peer or of a key: what a step makes, what it takes out and what is left. None is made
 -- twice in a run, and none leaves twice.
-use Rattle.std.proofs.Common.{ℕ, ◌≡◌, ◌+◌, ◌<◌, ◌≤◌, List, [], ◌∷◌, ◌++◌, refl, ap, ◌∙◌, append_assoc, arith, append-nil, inl, inr, ◌⊎◌}
-use Rattle.std.specs.Prelude.{map, find, Option, Some, None}
+use Rattle.std.proofs.Common.{ℕ, ◌≡◌, ◌+◌, ◌<◌, ◌≤◌, List, [], ◌∷◌, ◌++◌, refl, ap, ◌∙◌, append_assoc, Bool, arith, append-nil, inl, inr, ◌⊎◌}
+use Rattle.std.specs.Prelude.{find, Option, Some, None}
 use Rattle.std.proofs.lemmas.Bool.{cases_eq, eq-eqb, ne_eqb}
 use Rattle.std.proofs.lemmas.List.{map-append}
 use Rattle.ov_base.specs.declared.address.Transport.{Transport}
 use Rattle.ov_base.specs.Sums.{total}
 use Rattle.ov_model.specs.declared.ident.PeerId.{PeerId}
-use Rattle.ov_model.specs.declared.ident.KeyId.{KeyId}
 use Rattle.ov_model.specs.declared.command.Attrs.{Attrs}
 use Rattle.ov_model.specs.declared.command.KeyConf.{KeyConf}
 use Rattle.ov_model.specs.declared.command.Reason.{Reason}
@@ -20,11 +19,10 @@ use Rattle.ov_model.specs.declared.act.Call.{Call}
 use Rattle.ov_model.specs.declared.entry.Entry.{Entry}
 use Rattle.ov_model.specs.declared.reply.Reply.{Reply}
 use Rattle.ov_model.specs.declared.reply.Reply.TheVariants as reply
-use Rattle.ov_model.specs.declared.reply.Errno.{Errno}
 use Rattle.ov_model.specs.declared.reply.Errno.TheVariants.{NoEntry, Invalid}
 use Rattle.ov_model.specs.declared.reply.Settled.{Settled}
-use Rattle.ov_model.specs.Tables.{Peer, Key, Slots, Table, empty_table, change_first, without_first, has_id, has_serial, serials_of, in_slot, with_slot, key_if_any, keys_in, keys_of, key_serials, by_id, by_serial, by_vpn, by_key_id, by_key, without_key}
-use Rattle.ov_model.specs.Step.{Outcome, replied, refused, where_found, change_peer, peer_of, peer_new_checks, peer_made, peer_new, peer_new_at, peer_get, removals, remove_peer, key_of_conf, with_key, key_new_checks, key_made, key_new, hold_of, key_found, tx_look, rx_peer, rx_look, sent_peer, sent, settled_as, settle, spent_key, spend, released, key_released, act_step, step}
+use Rattle.ov_model.specs.Tables.{Peer, Key, Slots, Table, empty_table, change_first, without_first, has_id, has_serial, serials_of, in_slot, with_slot, swapped, key_if_any, keys_in, keys_of, key_serials, by_id, by_serial, by_vpn, by_key_id, by_key, without_key}
+use Rattle.ov_model.specs.Step.{Outcome, replied, refused, where_found, change_peer, peer_of, peer_new_checks, peer_made, peer_new, peer_new_at, set_peer, peer_set_checks, peer_changed, peer_set, peer_get, peer_dump, removals, remove_peer, key_of_conf, with_key, key_new_checks, key_made, key_new, key_get, with_slots, slots_changed, key_swap, key_del, hold_of, key_found, tx_look, rx_peer, rx_look, sent_peer, sent, settled_as, settle, spend, released, key_released, act_step, step}
 use Rattle.ov_model.specs.Runs.{Follows, IsRun, table_after}
 use Rattle.ov_model.specs.Events.{steps_after, steps_of}
 use Rattle.ov_model.specs.Path.{removed}
@@ -72,6 +70,24 @@ put_counts x Secondary k None None = omega arith
 put_counts x Secondary k None (Some b) = omega arith
 put_counts x Secondary k (Some a) None = rw (times_first x a.serial (k.serial ∷ [])) (omega arith)
 put_counts x Secondary k (Some a) (Some b) = rw (times_first x a.serial (k.serial ∷ []), times_first x a.serial (b.serial ∷ [])) (omega arith)
+
+-- A slot that becomes empty, and the key that stood there.
+emptied_counts : (x : ℕ) (slot : Slot) (a b : Option Key) →
+    let s : Slots = record { primary = a; secondary = b } in
+    times x (key_serials (keys_in (with_slot slot None s))) + times x (key_serials (key_if_any (in_slot slot s))) ≡ times x (key_serials (keys_in s))
+emptied_counts x Primary None b = omega arith
+emptied_counts x Primary (Some a) b = rw (times_first x a.serial (key_serials (key_if_any b))) (omega arith)
+emptied_counts x Secondary None b = omega arith
+emptied_counts x Secondary (Some a) b = rw (times_first x a.serial (key_serials (key_if_any b))) (omega arith)
+
+-- Two keys that change places.
+swapped_counts : (x : ℕ) (a b : Option Key) →
+    let s : Slots = record { primary = a; secondary = b } in
+    times x (key_serials (keys_in (swapped s))) + times x [] ≡ times x (key_serials (keys_in s))
+swapped_counts x None None = omega arith
+swapped_counts x None (Some b) = omega arith
+swapped_counts x (Some a) None = omega arith
+swapped_counts x (Some a) (Some b) = rw (times_first x b.serial (a.serial ∷ []), times_first x a.serial (b.serial ∷ [])) (omega arith)
 
 -- A key that is taken out of its slot by its serial.
 out_counts : (x key : ℕ) (k : Key) (a b : Option Key) →
@@ -174,6 +190,11 @@ remove_turns x t now id reason =
     (λ p found. removals_turns x t a now reason (p ∷ []) (without_first (has_id id) t.live) (reply.Removed (p.serial ∷ [])) refl refl refl
     (λ f. let out : total f (without_first (has_id id) t.live) + f p ≡ total f t.live = total_without f (has_id id) t.live p found in omega arith))
 
+-- The keys of a peer that is found are a part of all.
+keys_part : (x : ℕ) (fits : Peer → Bool) (ps : List Peer) (p : Peer) → find fits ps ≡ Some p → times x (peer_keys p) ≤ times x (slot_serials ps)
+keys_part x fits ps p found = rw (slots_total x ps)
+    (let out : total (λ q. times x (peer_keys q)) (without_first fits ps) + times x (peer_keys p) ≡ total (λ q. times x (peer_keys q)) ps = total_without (λ q. times x (peer_keys q)) fits ps p found in omega arith)
+
 key_made_turns : (x : ℕ) (t : Table) (now : ℕ) (c : KeyConf) (p : Peer) → by_id c.peer t.live ≡ Some p → Turns x t (act.Do (command.KeyNew c)) (key_made t now c p)
 key_made_turns x t now c p found =
     let k : Key = key_of_conf t.keys_made c in
@@ -181,7 +202,7 @@ key_made_turns x t now c p found =
     let set : times x (slot_serials new) + times x (peer_keys p) ≡ times x (slot_serials t.live) + times x (peer_keys (with_key c.slot k p)) =
     rw (slots_total x new, slots_total x t.live) (total_changed (λ q. times x (peer_keys q)) (has_id c.peer) (with_key c.slot k) t.live p found) in
     let put : times x (peer_keys (with_key c.slot k p)) + times x (key_serials (key_if_any (in_slot c.slot p.slots))) ≡ times x (peer_keys p) + times x (t.keys_made ∷ []) = put_counts x c.slot k p.slots.primary p.slots.secondary in
-    let whole : times x (peer_keys p) ≤ times x (slot_serials t.live) = rw (slots_total x t.live) (let out : total (λ q. times x (peer_keys q)) (without_first (has_id c.peer) t.live) + times x (peer_keys p) ≡ total (λ q. times x (peer_keys q)) t.live = total_without (λ q. times x (peer_keys q)) (has_id c.peer) t.live p found in omega arith) in
+    let whole : times x (peer_keys p) ≤ times x (slot_serials t.live) = keys_part x (has_id c.peer) t.live p found in
     record {
       peers = rw (map_changed (λ (q : Peer). q.serial) (has_id c.peer) (with_key c.slot k) t.live (λ q. refl)) refl;
       born = inl (refl, refl);
@@ -197,6 +218,35 @@ key_new_turns x t now c =
     let a : Act = act.Do (command.KeyNew c) in
     found_has (Turns x t a) t now _ (by_id c.peer t.live) _ (plain x t a now (reply.Refused NoEntry) refl refl refl)
     (λ p found. unless_has (Turns x t a) t now (key_new_checks t) (key_made t now c p) (λ e. plain x t a now (reply.Refused e) refl refl refl) (key_made_turns x t now c p found))
+
+-- A live peer's attributes are changed, and it keeps its keys.
+set_turns : (x : ℕ) (t : Table) (now : ℕ) (a : Attrs) → Turns x t (act.Do (command.PeerSet a)) (peer_set t now a)
+unfolding peer_set
+set_turns x t now a =
+    let set : Act = act.Do (command.PeerSet a) in
+    let new : List Peer = change_first (has_id a.id) (set_peer now a) t.live in
+    let slots : times x (slot_serials new) ≡ times x (slot_serials t.live) =
+    rw (slots_total x new, slots_total x t.live) (total_kept (λ p. times x (peer_keys p)) (has_id a.id) (set_peer now a) t.live (λ p. refl)) in
+    found_has (Turns x t set) t now _ (by_id a.id t.live) _ (plain x t set now (reply.Refused NoEntry) refl refl refl)
+    (λ p found. unless_has (Turns x t set) t now (peer_set_checks t a) (peer_changed t now a) (λ e. plain x t set now (reply.Refused e) refl refl refl)
+    (still x t set (peer_changed t now a) (map_changed (λ (q : Peer). q.serial) (has_id a.id) (set_peer now a) t.live (λ q. refl)) slots refl refl refl refl refl refl))
+
+-- A live peer's slots are changed: what is left there and what was taken out are the keys that were there.
+slots_turns : (x : ℕ) (t : Table) (a : Act) (now : ℕ) (id : PeerId) (change : Slots → Slots) (out : List Key) (p : Peer) → by_id id t.live ≡ Some p → peer_made_by a reply.Done ≡ [] → key_made_by a reply.Done ≡ []
+    → times x (peer_keys (with_slots change p)) + times x (key_serials out) ≡ times x (peer_keys p) → Turns x t a (slots_changed t now id change out)
+slots_turns x t a now id change out p found no_peer no_key parts =
+    let new : List Peer = change_first (has_id id) (with_slots change) t.live in
+    let set : times x (slot_serials new) + times x (peer_keys p) ≡ times x (slot_serials t.live) + times x (peer_keys (with_slots change p)) =
+    rw (slots_total x new, slots_total x t.live) (total_changed (λ q. times x (peer_keys q)) (has_id id) (with_slots change) t.live p found) in
+    let whole : times x (peer_keys p) ≤ times x (slot_serials t.live) = keys_part x (has_id id) t.live p found in
+    record {
+      peers = rw (map_changed (λ (q : Peer). q.serial) (has_id id) (with_slots change) t.live (λ q. refl), no_peer) refl;
+      born = inl (no_peer, refl);
+      removed_live = omega arith;
+      slots = rw no_key (omega arith);
+      made = inl (no_key, refl);
+      taken_live = omega arith;
+    }
 
 -- Acts that aren't commands make no peer and no key.
 abbrev MakesNone : Act → Type 0
@@ -237,15 +287,29 @@ spent_turns x t now peer key =
     }))
 
 pub turns : (x : ℕ) (t : Table) (now : ℕ) (a : Act) → Turns x t a (act_step t now a)
-unfolding peer_new peer_get tx_look rx_look sent settle released key_released
+unfolding peer_new peer_get peer_dump key_get key_swap key_del tx_look rx_look sent settle released key_released
 turns x t now (act.Do (command.PeerNew a)) =
     let new : Act = act.Do (command.PeerNew a) in
     found_has (Turns x t new) t now _ a.remote _ (plain x t new now (reply.Refused Invalid) refl refl refl) (λ remote is. new_turns x t now a remote)
 turns x t now (act.Do (command.PeerGet id)) =
     let a : Act = act.Do (command.PeerGet id) in
     found_has (Turns x t a) t now _ (by_id id t.live) _ (plain x t a now (reply.Refused NoEntry) refl refl refl) (λ p found. plain x t a now _ refl refl refl)
+turns x t now (act.Do (command.PeerSet a)) = set_turns x t now a
+turns x t now (act.Do command.PeerDump) = plain x t (act.Do command.PeerDump) now _ refl refl refl
 turns x t now (act.Do (command.Remove id reason)) = remove_turns x t now id reason
 turns x t now (act.Do (command.KeyNew c)) = key_new_turns x t now c
+turns x t now (act.Do (command.KeyGet id slot)) =
+    let a : Act = act.Do (command.KeyGet id slot) in
+    let none : Turns x t a (refused t now NoEntry) = plain x t a now (reply.Refused NoEntry) refl refl refl in
+    found_has (Turns x t a) t now _ (by_id id t.live) _ none (λ p found. found_has (Turns x t a) t now _ (in_slot slot p.slots) _ none (λ k has. plain x t a now _ refl refl refl))
+turns x t now (act.Do (command.KeySwap id)) =
+    let a : Act = act.Do (command.KeySwap id) in
+    found_has (Turns x t a) t now _ (by_id id t.live) _ (plain x t a now (reply.Refused NoEntry) refl refl refl)
+    (λ p found. slots_turns x t a now id swapped [] p found refl refl (swapped_counts x p.slots.primary p.slots.secondary))
+turns x t now (act.Do (command.KeyDel id slot)) =
+    let a : Act = act.Do (command.KeyDel id slot) in
+    found_has (Turns x t a) t now _ (by_id id t.live) _ (plain x t a now (reply.Refused NoEntry) refl refl refl)
+    (λ p found. slots_turns x t a now id (with_slot slot None) (key_if_any (in_slot slot p.slots)) p found refl refl (emptied_counts x slot p.slots.primary p.slots.secondary))
 turns x t now (act.TxLook a) = look_turns x t (act.TxLook a) now (by_vpn a t.live) (λ p. p.slots.primary) (λ r. (refl, refl))
 turns x t now (act.RxLook id key_id from) = look_turns x t (act.RxLook id key_id from) now (rx_peer id from t.live) (λ p. by_key_id key_id p.slots) (λ r. (refl, refl))
 turns x t now (act.Sent peer inner outer ping) =

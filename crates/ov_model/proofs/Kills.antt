@@ -1,5 +1,5 @@
 -- No key is killed twice in a run: a killed key leaves its slot.
-use Rattle.std.proofs.Common.{ℕ, ◌≡◌, ◌+◌, ◌≤◌, zero, suc, List, [], ◌∷◌, ◌++◌, refl, ap, ◌∙◌, sym, true, false, arith}
+use Rattle.std.proofs.Common.{ℕ, ◌≡◌, ◌+◌, ◌≤◌, zero, suc, List, [], ◌∷◌, ◌++◌, refl, ap, true, false, arith}
 use Rattle.std.specs.Prelude.{Some, slice_get}
 use Rattle.std.proofs.lemmas.Bool.{eq-eqb}
 use Rattle.ov_model.specs.declared.act.Act.{Act}
@@ -25,18 +25,7 @@ killed_in (e ∷ es) = killed_by e.reply e.call.act ++ killed_in es
 -- An act that spends nothing kills nothing.
 spares_all : (r : Reply) (a : Act) → spent_by a ≡ [] → killed_by r a ≡ []
 spares_all reply.Killed a none = none
-spares_all (reply.Made n) a none = refl
-spares_all reply.Done a none = refl
-spares_all (reply.Peer p) a none = refl
-spares_all (reply.Removed ps) a none = refl
-spares_all (reply.Hold h) a none = refl
-spares_all reply.NoPeer a none = refl
-spares_all reply.NoKey a none = refl
-spares_all (reply.Settled s) a none = refl
-spares_all reply.AlreadyGone a none = refl
-spares_all (reply.Released s) a none = refl
-spares_all (reply.KeyReleased s) a none = refl
-spares_all (reply.Refused e) a none = refl
+spares_all _ a none = refl
 
 -- What a step kills it takes out of its slot.
 killed_taken : (x : ℕ) (t : Table) (now : ℕ) (a : Act) → times x (killed_by (act_step t now a).reply a) ≤ times x (act_step t now a).taken

@@ -15,7 +15,7 @@ use Rattle.ov_model.specs.Events.{Step, Judgement, judgement_of, is_at, of, show
 use Rattle.ov_model.specs.Tables.{Material}
 use Rattle.ov_model.specs.Path.{Path, by_at_once, by_command, by_miss, by_round}
 use Rattle.ov_model.specs.Legal.{Meets, NeverFall, LaneMeets, LinesRise}
-use Rattle.ov_model.specs.Lanes.{LaneRuns}
+use Rattle.ov_model.specs.Lanes.{LaneRuns, judged_in}
 
 pub all_append : {X : Type 0} (P : X → Type 0) (xs ys : List X) → AllByRecursion P xs → AllByRecursion P ys → AllByRecursion P (xs ++ ys)
 all_append P [] ys a b = b
@@ -175,12 +175,6 @@ lane_knows old new via ss shards lane lines answers now judged knows meets = rec
 
 shown-append : (rs more : List ReplayEntry) (lane line : ℕ) → shown (rs ++ more) lane line ≡ shown rs lane line ++ shown more lane line
 shown-append rs more lane line = rw (filter-append (λ (r : ReplayEntry). is_at lane line r.place) rs more) (map-append judgement_of (filter (λ r. is_at lane line r.place) rs) (filter (λ r. is_at lane line r.place) more))
-
--- The shards with one more step at the end of one of them.
-abbrev pub judged_in : List (List ReplayEntry) → ℕ → ReplayEntry → List (List ReplayEntry)
-judged_in [] k r = []
-judged_in (rs ∷ shards) zero r = (rs ++ r ∷ []) ∷ shards
-judged_in (rs ∷ shards) (suc k) r = rs ∷ judged_in shards k r
 
 -- Another line's steps stay.
 judged_elsewhere : (shards : List (List ReplayEntry)) (k : ℕ) (r : ReplayEntry) (lane line : ℕ) → is_at lane line r.place ≡ false → shown_in (judged_in shards k r) lane line ≡ shown_in shards lane line

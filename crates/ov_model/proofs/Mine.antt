@@ -14,7 +14,7 @@ use Rattle.ov_model.specs.Tables.{Material}
 use Rattle.ov_model.specs.Events.{Step, judgement_of, is_at, of, shown, shown_in}
 use Rattle.ov_model.specs.Legal.{Meets, NeverFall, LaneMeets, LinesRise}
 use Rattle.ov_model.specs.Own.{mine, mine_judged, mine_shards}
-use Rattle.ov_model.proofs.Lanes.{judged_in}
+use Rattle.ov_model.specs.Lanes.{judged_in}
 
 -- ---- lists
 

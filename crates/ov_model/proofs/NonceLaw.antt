@@ -46,31 +46,11 @@ record MakesOne (a : Act) (r : Reply) : Type 0 where
 
 key_new_makes : (c : KeyConf) (r : Reply) → MakesNone (act.Do (command.KeyNew c)) r ⊎ MakesOne (act.Do (command.KeyNew c)) r
 key_new_makes c (reply.Made serial) = inr (record { conf = c; serial = serial; confs = refl; key = λ k. refl })
-key_new_makes c reply.Done = inl (record { confs = refl; key = λ k. refl })
-key_new_makes c (reply.Peer p) = inl (record { confs = refl; key = λ k. refl })
-key_new_makes c (reply.Removed ps) = inl (record { confs = refl; key = λ k. refl })
-key_new_makes c (reply.Hold h) = inl (record { confs = refl; key = λ k. refl })
-key_new_makes c reply.NoPeer = inl (record { confs = refl; key = λ k. refl })
-key_new_makes c reply.NoKey = inl (record { confs = refl; key = λ k. refl })
-key_new_makes c (reply.Settled s) = inl (record { confs = refl; key = λ k. refl })
-key_new_makes c reply.Killed = inl (record { confs = refl; key = λ k. refl })
-key_new_makes c reply.AlreadyGone = inl (record { confs = refl; key = λ k. refl })
-key_new_makes c (reply.Released s) = inl (record { confs = refl; key = λ k. refl })
-key_new_makes c (reply.KeyReleased s) = inl (record { confs = refl; key = λ k. refl })
-key_new_makes c (reply.Refused e) = inl (record { confs = refl; key = λ k. refl })
+key_new_makes c _ = inl (record { confs = refl; key = λ k. refl })
 
 makes : (a : Act) (r : Reply) → MakesNone a r ⊎ MakesOne a r
-makes (act.Do (command.PeerNew a)) r = inl (record { confs = refl; key = λ k. refl })
-makes (act.Do (command.PeerGet id)) r = inl (record { confs = refl; key = λ k. refl })
-makes (act.Do (command.Remove id reason)) r = inl (record { confs = refl; key = λ k. refl })
 makes (act.Do (command.KeyNew c)) r = key_new_makes c r
-makes (act.TxLook a) r = inl (record { confs = refl; key = λ k. refl })
-makes (act.RxLook id key_id from) r = inl (record { confs = refl; key = λ k. refl })
-makes (act.Sent peer inner outer ping) r = inl (record { confs = refl; key = λ k. refl })
-makes (act.Settle peer from k inner outer) r = inl (record { confs = refl; key = λ k. refl })
-makes (act.Spend peer key) r = inl (record { confs = refl; key = λ k. refl })
-makes (act.Released serial) r = inl (record { confs = refl; key = λ k. refl })
-makes (act.KeyReleased serial) r = inl (record { confs = refl; key = λ k. refl })
+makes _ r = inl (record { confs = refl; key = λ k. refl })
 
 here : (e : Entry) (one : MakesOne e.call.act e.reply) (k : ℕ) → one.serial ≡ k → key_by e.call.act e.reply k ≡ Some (material_of one.conf)
 here e one k same = rw (one.key k, eq-eqb one.serial k same) refl

@@ -1,6 +1,6 @@
 -- Each removed peer and each killed key of a run is told of by its note.
-use Rattle.std.proofs.Common.{ℕ, ◌≡◌, ◌≢◌, ◌+◌, ◌<◌, ◌≤◌, zero, suc, List, [], ◌∷◌, ◌++◌, refl, ap, ◌∙◌, length, Bool, arith, append-nil, if◌then◌else◌, ◌==◌, inl, inr}
-use Rattle.std.specs.Prelude.{map, filter, Option, Some, remove, slice_get}
+use Rattle.std.proofs.Common.{ℕ, ◌≡◌, ◌≢◌, ◌+◌, ◌<◌, ◌≤◌, zero, suc, List, [], ◌∷◌, ◌++◌, refl, ap, ◌∙◌, length, Bool, arith, append-nil, if◌then◌else◌, ◌==◌}
+use Rattle.std.specs.Prelude.{map, filter, Option, Some, slice_get}
 use Rattle.std.specs.Option.{option_or}
 use Rattle.std.specs.List.{AllByRecursion}
 use Rattle.std.proofs.lemmas.Bool.{eq-eqb, ne_eqb}
@@ -13,7 +13,7 @@ use Rattle.ov_model.specs.declared.note.Note.{Note}
 use Rattle.ov_model.specs.declared.note.NoteBody.{NoteBody}
 use Rattle.ov_model.specs.declared.reply.Reply.{Reply}
 use Rattle.ov_model.specs.Tables.{Table, empty_table}
-use Rattle.ov_model.specs.Step.{Outcome, step}
+use Rattle.ov_model.specs.Step.{step}
 use Rattle.ov_model.specs.Runs.{Follows, IsRun, numbered, notes_after, notes_of}
 use Rattle.ov_model.specs.Path.{removed}
 use Rattle.ov_model.specs.Removals.{id_by, id_in, reason_of, removed_in, killed_by, is_peer_del, is_key_swap, noted, peer_dels, key_swaps, del_note, RemovalsNoted}

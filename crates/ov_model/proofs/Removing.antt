@@ -12,18 +12,16 @@ use Rattle.ov_model.specs.declared.ident.KeyId.{KeyId}
 use Rattle.ov_model.specs.declared.act.InnerKind.{InnerKind}
 use Rattle.ov_model.specs.declared.command.Attrs.{Attrs}
 use Rattle.ov_model.specs.declared.command.Reason.{Reason}
-use Rattle.ov_model.specs.declared.command.KeyConf.{KeyConf}
 use Rattle.ov_model.specs.declared.command.Command.{Command}
 use Rattle.ov_model.specs.declared.command.Command.TheVariants as command
 use Rattle.ov_model.specs.declared.reply.Reply.{Reply}
 use Rattle.ov_model.specs.declared.reply.Reply.TheVariants as reply
-use Rattle.ov_model.specs.declared.reply.Settled.{Settled}
-use Rattle.ov_model.specs.Tables.{Peer, Key, Table, has_serial, bare, serials_of, key_serials, key_if_any, keys_in, keys_of, in_slot, by_id, by_serial, by_vpn, by_key_id, by_key}
-use Rattle.ov_model.specs.Step.{Outcome, replied, where_found, change_peer, key_found, tx_look, rx_peer, rx_look, sent_peer, sent, settled_as, settle, spent_key, spend, peer_new_checks, peer_made, peer_new, peer_new_at, peer_get, removals, remove_peer, key_new_checks, key_new, key_made, released, key_released, command_step}
+use Rattle.ov_model.specs.Tables.{Peer, Key, Slots, Table, has_serial, bare, serials_of, key_serials, key_if_any, keys_in, keys_of, in_slot, with_slot, swapped, by_id, by_serial, by_vpn, by_key_id, by_key}
+use Rattle.ov_model.specs.Step.{Outcome, replied, where_found, change_peer, key_found, tx_look, rx_peer, rx_look, sent_peer, sent, settled_as, settle, spend, peer_new_checks, peer_made, peer_new, peer_new_at, peer_set_checks, peer_changed, peer_set, peer_get, peer_dump, removals, remove_peer, key_new_checks, key_new, key_made, key_get, slots_changed, key_swap, key_del, released, key_released, command_step}
 use Rattle.ov_model.specs.Path.{SomeOf, none, kept, removed, spent_reply, spent_taken}
 use Rattle.ov_model.proofs.Firsts.{map_changed}
 use Rattle.ov_model.proofs.StepCases.{unless_has, found_has, changed_has}
-use Rattle.ov_model.proofs.Shapes.{Name, Kept, settled_kept}
+use Rattle.ov_model.proofs.Shapes.{Name, settled_kept}
 
 -- The serials of some peers.
 abbrev pub serials : List Peer → List ℕ
@@ -98,14 +96,27 @@ removals_join t now reason gone left r are = record {
   keys_joined = map-append (λ (k : Key). k.serial) t.retired (keys_of gone);
 }
 
+-- The change of a live peer's slots.
+slots_join : (t : Table) (now : ℕ) (id : PeerId) (change : Slots → Slots) (out : List Key) → Joins t (slots_changed t now id change out)
+slots_join t now id change out = record { joined = sym (append-nil (serials t.dying)); keys_joined = map-append (λ (k : Key). k.serial) t.retired out }
+
 pub command_joins : (t : Table) (now : ℕ) (c : Command) → Joins t (command_step t now c)
-unfolding peer_new peer_get remove_peer key_new
+unfolding peer_new peer_set peer_get peer_dump remove_peer key_new key_get key_swap key_del
 command_joins t now (command.PeerNew a) = found_has (Joins t) t now _ a.remote _ (joins_plain t now _ refl) (λ remote is. new_joins t now a remote)
+command_joins t now (command.PeerSet a) = found_has (Joins t) t now _ (by_id a.id t.live) _ (joins_plain t now _ refl)
+    (λ p found. unless_has (Joins t) t now (peer_set_checks t a) (peer_changed t now a) (λ e. joins_plain t now (reply.Refused e) refl)
+    (record { joined = sym (append-nil (serials t.dying)); keys_joined = sym (append-nil (key_serials t.retired)) }))
+command_joins t now command.PeerDump = joins_plain t now _ refl
 command_joins t now (command.PeerGet id) = found_has (Joins t) t now _ (by_id id t.live) _ (joins_plain t now _ refl) (λ p found. joins_plain t now _ refl)
 command_joins t now (command.Remove id reason) = found_has (Joins t) t now _ (by_id id t.live) _ (joins_plain t now _ refl) (λ p found. removals_join t now reason (p ∷ []) _ _ refl)
 command_joins t now (command.KeyNew c) = found_has (Joins t) t now _ (by_id c.peer t.live) _ (joins_plain t now _ refl)
     (λ p found. unless_has (Joins t) t now (key_new_checks t) (key_made t now c p) (λ e. joins_plain t now (reply.Refused e) refl)
     (record { joined = sym (append-nil (serials t.dying)); keys_joined = map-append (λ (k : Key). k.serial) t.retired (key_if_any (in_slot c.slot p.slots)) }))
+command_joins t now (command.KeyGet id slot) = found_has (Joins t) t now _ (by_id id t.live) _ (joins_plain t now _ refl)
+    (λ p found. found_has (Joins t) t now _ (in_slot slot p.slots) _ (joins_plain t now _ refl) (λ k has. joins_plain t now _ refl))
+command_joins t now (command.KeySwap id) = found_has (Joins t) t now _ (by_id id t.live) _ (joins_plain t now _ refl) (λ p found. slots_join t now id swapped [])
+command_joins t now (command.KeyDel id slot) = found_has (Joins t) t now _ (by_id id t.live) _ (joins_plain t now _ refl)
+    (λ p found. slots_join t now id (with_slot slot None) (key_if_any (in_slot slot p.slots)))
 
 -- ---- steps that remove nothing
 

@@ -23,6 +23,7 @@ use Rattle.ov_model.specs.declared.line.Line.{Line}
 use Rattle.ov_model.specs.declared.line.Deed.{Deed}
 use Rattle.ov_model.specs.declared.line.Deed.TheVariants as deed
 use Rattle.ov_model.specs.declared.line.Script.{Script}
+use Rattle.ov_model.specs.declared.report.LaneLog.{LaneLog}
 use Rattle.ov_model.specs.declared.report.Report.{Report}
 use Rattle.ov_model.specs.Ident.{peer_id, key_id}
 use Rattle.ov_model.specs.Tables.{Material, empty_table}
@@ -31,6 +32,7 @@ use Rattle.ov_model.specs.Events.{Step, Judgement, of, shown_in, steps_of, step_
 use Rattle.ov_model.specs.Packets.{HeadKind, short, data_v1, control, data_v2, head_of, Inner, v4, v6, not_ip, inner_of}
 use Rattle.ov_model.specs.Path.{at_once, begins_netlink, begins_tx, rx_look_by, begins_rx, begins, UseFits, sealed_datagram, use_row, Path, by_at_once, by_command, by_miss, by_round}
 use Rattle.ov_model.specs.Keys.{key_of}
+use Rattle.ov_model.specs.Via.{via_of}
 use Rattle.ov_model.specs.Legal.{Meets, Legal}
 use Rattle.ov_model.specs.Laws.{IsSealed, SealedUnder}
 use Rattle.ov_model.proofs.Places.{step_entry}
@@ -69,6 +71,7 @@ pub at_once_not_made : (via : Addr → Addr) (d : Deed) (a : Answer) → begins 
 at_once_not_made via (deed.Netlink m) a is made = netlink_not_made (checked m) a is made
 at_once_not_made via (deed.Tx packet) a is made = tx_not_made via (inner_of packet) a is made
 at_once_not_made via (deed.Rx from bytes) a is made = rx_not_made from (head_of bytes) a is made
+at_once_not_made via (deed.Lost id reason) a is made = cc
 
 -- ---- the row of a sealed answer
 
@@ -113,24 +116,31 @@ sealed_row material via place line ss js s (by_round r) = record {
   looked = ap (λ (l : List Step). slice_get l 0) r.steps_are;
 }
 
-pub sealed_under : (script : Script) (first : ℕ) (report : Report) → Legal script first report → (lane line : ℕ) (s : SealedOut) → IsSealed report lane line s → SealedUnder report lane line s
-sealed_under script first report legal lane line s at =
-    let place : Place = record { lane = lane; line = line } in
-    let x : InLane report.lanes lane line (answer.Sealed s) = in_lane report.lanes lane line (answer.Sealed s) at in
-    let meets : Meets (key_of report.journal) (λ a. a) (steps_of report.journal) report.shards lane x.log.lines x.log.answers line = (legal.lines.each lane x.log x.log_is).each line (slice_get_within x.log.answers line (answer.Sealed s) x.at) in
-    let its : Some meets.answer ≡ Some (answer.Sealed s) = sym meets.answer_is ∙ x.at in
-    let same : meets.answer ≡ answer.Sealed s = cc in
-    let P : Answer → Type 0 = Path (key_of report.journal) (λ a. a) place meets.line (of (steps_of report.journal) lane line) (shown_in report.shards lane line) in
-    let row : SealedRow (key_of report.journal) place meets.line (of (steps_of report.journal) lane line) s = sealed_row (key_of report.journal) (λ a. a) place meets.line _ _ s (subst P same meets.path) in
-    let found = step_entry empty_table report.journal lane line 0 (step_of place meets.line.at row.look (reply.Hold row.h) []) row.looked in
+-- What the row of a sealed line says of the report.
+row_shows : (report : Report) (lane line : ℕ) (s : SealedOut) (log : LaneLog) (its : Line) → slice_get report.lanes lane ≡ Some log → slice_get log.lines line ≡ Some its
+    → SealedRow (key_of report.journal) (record { lane = lane; line = line }) its (of (steps_of report.journal) lane line) s → SealedUnder report lane line s
+row_shows report lane line s log its log_is its_is row =
+    let step : Step = step_of (record { lane = lane; line = line }) its.at row.look (reply.Hold row.h) [] in
+    let found = step_entry empty_table report.journal lane line 0 step row.looked in
     record {
       packet = row.seals.packet;
-      sends = record { log = x.log; log_is = x.log_is; its = meets.line; its_is = meets.line_is; deed_is = row.seals.sends };
+      sends = record { log = log; log_is = log_is; its = its; its_is = its_is; deed_is = row.seals.sends };
       hold = row.h;
-      held = record { n = found.n; entry = (step_of place meets.line.at row.look (reply.Hold row.h) []).entry; made = record { at = found.at; place = refl }; held = refl };
+      held = record { n = found.n; entry = step.entry; made = record { at = found.at; place = refl }; held = refl };
       key_is = ap (λ (o : SealedOut). o.key) row.seals.sealed;
       to_is = ap (λ (o : SealedOut). o.to) row.seals.sealed;
       material = row.m;
       material_is = row.m_is;
       datagram_is = ap (λ (o : SealedOut). o.datagram) row.seals.sealed;
     }
+
+pub sealed_under : (script : Script) (first : ℕ) (report : Report) → Legal script first report → (lane line : ℕ) (s : SealedOut) → IsSealed report lane line s → SealedUnder report lane line s
+sealed_under script first report legal lane line s at =
+    let via : Addr → Addr = via_of script.routes in
+    let place : Place = record { lane = lane; line = line } in
+    let x : InLane report.lanes lane line (answer.Sealed s) = in_lane report.lanes lane line (answer.Sealed s) at in
+    let meets : Meets (key_of report.journal) via (steps_of report.journal) report.shards lane x.log.lines x.log.answers line = (legal.lines.each lane x.log x.log_is).each line (slice_get_within x.log.answers line (answer.Sealed s) x.at) in
+    let its : Some meets.answer ≡ Some (answer.Sealed s) = sym meets.answer_is ∙ x.at in
+    let same : meets.answer ≡ answer.Sealed s = cc in
+    let P : Answer → Type 0 = Path (key_of report.journal) via place meets.line (of (steps_of report.journal) lane line) (shown_in report.shards lane line) in
+    row_shows report lane line s x.log meets.line x.log_is meets.line_is (sealed_row (key_of report.journal) via place meets.line _ _ s (subst P same meets.path))

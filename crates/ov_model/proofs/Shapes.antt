@@ -4,10 +4,8 @@ use Rattle.std.specs.Prelude.{map, filter, find, Option, Some, None, is_some}
 use Rattle.std.specs.List.{AllByRecursion}
 use Rattle.std.proofs.lemmas.Bool.{eq-eqb, ne_eqb}
 use Rattle.std.proofs.lemmas.List.{map-append}
-use Rattle.ov_base.specs.declared.address.Addr.{Addr}
 use Rattle.ov_base.specs.declared.address.Transport.{Transport}
 use Rattle.ov_model.specs.declared.ident.PeerId.{PeerId}
-use Rattle.ov_model.specs.declared.ident.KeyId.{KeyId}
 use Rattle.ov_model.specs.declared.command.Attrs.{Attrs}
 use Rattle.ov_model.specs.declared.command.KeyConf.{KeyConf}
 use Rattle.ov_model.specs.declared.command.Reason.{Reason}
@@ -15,7 +13,6 @@ use Rattle.ov_model.specs.declared.command.Command.TheVariants as command
 use Rattle.ov_model.specs.declared.act.Act.{Act}
 use Rattle.ov_model.specs.declared.act.Act.TheVariants as act
 use Rattle.ov_model.specs.declared.act.Call.{Call}
-use Rattle.ov_model.specs.declared.act.InnerKind.{InnerKind}
 use Rattle.ov_model.specs.declared.note.NoteBody.TheVariants as note
 use Rattle.ov_model.specs.declared.reply.Errno.{Errno}
 use Rattle.ov_model.specs.declared.reply.Errno.TheVariants.{NoEntry, Invalid}
@@ -23,8 +20,8 @@ use Rattle.ov_model.specs.declared.reply.Reply.{Reply}
 use Rattle.ov_model.specs.declared.reply.Reply.TheVariants as reply
 use Rattle.ov_model.specs.declared.reply.Settled.{Settled}
 use Rattle.ov_model.specs.declared.reply.Settled.TheVariants as settled
-use Rattle.ov_model.specs.Tables.{Peer, Key, Table, without_first, has_id, has_serial, serials_of, by_id, by_serial, by_remote, by_vpn, by_key_id, by_key, without_key}
-use Rattle.ov_model.specs.Step.{Outcome, replied, refused, where_found, change_peer, peer_of, peer_new_checks, peer_made, peer_new, peer_new_at, peer_get, removals, remove_peer, key_of_conf, with_key, key_new_checks, key_made, key_new, hold_of, key_found, tx_look, rx_peer, rx_look, sent_peer, sent, received_peer, floated, settled_peer, settled_as, settle, spent_key, spend, released, key_released, act_step, step}
+use Rattle.ov_model.specs.Tables.{Peer, Key, Slots, Table, without_first, has_id, has_serial, serials_of, in_slot, with_slot, swapped, key_if_any, by_id, by_serial, by_remote, by_vpn, by_key_id, by_key, without_key}
+use Rattle.ov_model.specs.Step.{Outcome, replied, refused, where_found, change_peer, peer_of, peer_new_checks, peer_made, peer_new, peer_new_at, set_peer, peer_set_checks, peer_changed, peer_set, peer_get, peer_dump, removals, remove_peer, key_of_conf, with_key, key_new_checks, key_made, key_new, key_get, with_slots, slots_changed, key_swap, key_del, hold_of, key_found, tx_look, rx_peer, rx_look, sent_peer, sent, received_peer, floated, settled_peer, settled_as, settle, spend, released, key_released, act_step, step}
 use Rattle.ov_model.specs.Path.{removed}
 use Rattle.ov_model.specs.Removals.{id_by, reason_of, killed_by, is_peer_del, is_key_swap, del_note}
 use Rattle.ov_model.proofs.Lanes.{all_append}
@@ -151,6 +148,19 @@ key_new_tells t now c =
     (λ p found. unless_has (Tells t a) t now (key_new_checks t) (key_made t now c p) (refusal t a now)
     (quiet t a (key_made t now c p) (map_changed name_of (has_id c.peer) (with_key c.slot (key_of_conf t.keys_made c)) t.live (λ q. refl)) refl refl refl refl (λ s. either_none (t.keys_made == s))))
 
+-- A live peer's attributes are changed.
+set_tells : (t : Table) (now : ℕ) (a : Attrs) → Tells t (act.Do (command.PeerSet a)) (peer_set t now a)
+unfolding peer_set
+set_tells t now a =
+    let set : Act = act.Do (command.PeerSet a) in
+    found_has (Tells t set) t now _ (by_id a.id t.live) _ (refusal t set now NoEntry)
+    (λ p found. unless_has (Tells t set) t now (peer_set_checks t a) (peer_changed t now a) (refusal t set now)
+    (quiet t set (peer_changed t now a) (map_changed name_of (has_id a.id) (set_peer now a) t.live (λ q. refl)) refl refl refl refl (λ s. refl)))
+
+-- A live peer's slots are changed.
+slots_tell : (t : Table) (a : Act) (now : ℕ) (id : PeerId) (change : Slots → Slots) (out : List Key) → Tells t a (slots_changed t now id change out)
+slots_tell t a now id change out = quiet t a (slots_changed t now id change out) (map_changed name_of (has_id id) (with_slots change) t.live (λ q. refl)) refl refl refl refl (λ s. refl)
+
 -- ---- look-ups
 
 look_tells : (t : Table) (a : Act) (now : ℕ) (p : Peer) (k : Option Key) → Tells t a (key_found t now p k)
@@ -215,13 +225,25 @@ spent_tells t now peer key =
 -- ---- every step
 
 tells : (t : Table) (now : ℕ) (a : Act) → Tells t a (act_step t now a)
-unfolding peer_new peer_get tx_look rx_look sent settle released key_released
+unfolding peer_new peer_get peer_dump key_get key_swap key_del tx_look rx_look sent settle released key_released
 tells t now (act.Do (command.PeerNew a)) = found_has (Tells t (act.Do (command.PeerNew a))) t now _ a.remote _ (refusal t (act.Do (command.PeerNew a)) now Invalid) (λ remote is. new_tells t now a remote)
 tells t now (act.Do (command.PeerGet id)) =
     let a : Act = act.Do (command.PeerGet id) in
     found_has (Tells t a) t now _ (by_id id t.live) _ (refusal t a now NoEntry) (λ p found. quiet t a _ refl refl refl refl refl (λ s. refl))
+tells t now (act.Do (command.PeerSet a)) = set_tells t now a
+tells t now (act.Do command.PeerDump) = quiet t (act.Do command.PeerDump) _ refl refl refl refl refl (λ s. refl)
 tells t now (act.Do (command.Remove id reason)) = remove_tells t now id reason
 tells t now (act.Do (command.KeyNew c)) = key_new_tells t now c
+tells t now (act.Do (command.KeyGet id slot)) =
+    let a : Act = act.Do (command.KeyGet id slot) in
+    found_has (Tells t a) t now _ (by_id id t.live) _ (refusal t a now NoEntry)
+    (λ p found. found_has (Tells t a) t now _ (in_slot slot p.slots) _ (refusal t a now NoEntry) (λ k has. quiet t a _ refl refl refl refl refl (λ s. refl)))
+tells t now (act.Do (command.KeySwap id)) =
+    let a : Act = act.Do (command.KeySwap id) in
+    found_has (Tells t a) t now _ (by_id id t.live) _ (refusal t a now NoEntry) (λ p found. slots_tell t a now id swapped [])
+tells t now (act.Do (command.KeyDel id slot)) =
+    let a : Act = act.Do (command.KeyDel id slot) in
+    found_has (Tells t a) t now _ (by_id id t.live) _ (refusal t a now NoEntry) (λ p found. slots_tell t a now id (with_slot slot None) (key_if_any (in_slot slot p.slots)))
 tells t now (act.TxLook a) = found_tells t (act.TxLook a) now (by_vpn a t.live) (λ p. p.slots.primary)
 tells t now (act.RxLook id key_id from) = found_tells t (act.RxLook id key_id from) now (rx_peer id from t.live) (λ p. by_key_id key_id p.slots)
 tells t now (act.Sent peer inner outer ping) =

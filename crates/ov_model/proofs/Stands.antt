@@ -18,9 +18,10 @@ use Rattle.ov_model.specs.Events.{Step, Judgement, judgement_of, steps_after, st
 use Rattle.ov_model.specs.Path.{Path}
 use Rattle.ov_model.specs.Keys.{key_of}
 use Rattle.ov_model.specs.Legal.{LaneMeets}
+use Rattle.ov_model.specs.Lanes.{judged_in}
 use Rattle.ov_model.specs.Own.{mine, mine_shards, if_any, picked, positions, AreAll, own_by, RiseFrom, steps_at, LaneStands}
 use Rattle.ov_model.proofs.Going.{steps_after-append}
-use Rattle.ov_model.proofs.Lanes.{AtPlace, Knows, all_append, all_weaker, own_steps, own_judged, line_done, lane_knows, lane_done, judged_in}
+use Rattle.ov_model.proofs.Lanes.{AtPlace, Knows, all_append, all_weaker, own_steps, own_judged, line_done, lane_knows, lane_done}
 use Rattle.ov_model.proofs.Mine.{lane_whole}
 use Rattle.ov_model.proofs.Picked.{at_passes, elem_within, picked_front, picked-append, picked_along}
 

@@ -1,5 +1,5 @@
 -- What holds of each outcome that a step may have holds of the step.
-use Rattle.std.proofs.Common.{ℕ, ◌≡◌, List, [], ◌∷◌, Bool, true, false, if◌then◌else◌, refl}
+use Rattle.std.proofs.Common.{ℕ, ◌≡◌, List, [], ◌∷◌, true, false, if◌then◌else◌, refl}
 use Rattle.std.specs.Prelude.{⊤, Option, Some, None}
 use Rattle.ov_model.specs.declared.reply.Errno.{Errno}
 use Rattle.ov_model.specs.declared.reply.Reply.{Reply}

@@ -7,7 +7,6 @@ use Rattle.std.specs.Cmp.{first_so, second_so}
 use Rattle.std.proofs.lemmas.Bool.{cases_eq, eq-eqb, ne_eqb, or_cases}
 use Rattle.std.proofs.lemmas.Bool.Decides.{nat_tests}
 use Rattle.ov_model.specs.Limits.{most_peers, most_keys}
-use Rattle.ov_base.specs.declared.address.Transport.{Transport}
 use Rattle.ov_base.specs.Address.{same_transport}
 use Rattle.ov_model.specs.declared.ident.PeerId.{PeerId}
 use Rattle.ov_model.specs.declared.ident.KeyId.{KeyId}
@@ -19,8 +18,8 @@ use Rattle.ov_model.specs.declared.act.Call.{Call}
 use Rattle.ov_model.specs.declared.entry.Entry.{Entry}
 use Rattle.ov_model.specs.declared.reply.Reply.{Reply}
 use Rattle.ov_model.specs.declared.reply.Reply.TheVariants as reply
-use Rattle.ov_model.specs.Tables.{Peer, Key, Table, empty_table, serials_of, key_if_any, keys_in, key_serials, has_id, by_key, by_key_id, by_id, by_serial, by_remote, by_vpn, has_vpn}
-use Rattle.ov_model.specs.Step.{Outcome, where_found, peer_new_checks, peer_made, peer_new, peer_get, remove_peer, key_new_checks, key_made, key_new, key_found, tx_look, rx_look, sent, settle, spend, released, key_released, act_step, step, is_there, is_retired, has_key, may_act, May}
+use Rattle.ov_model.specs.Tables.{Peer, Key, Table, empty_table, serials_of, in_slot, key_if_any, keys_in, key_serials, has_id, by_key, by_key_id, by_id, by_serial, by_remote, by_vpn, has_vpn}
+use Rattle.ov_model.specs.Step.{Outcome, where_found, peer_new_checks, peer_made, peer_new, peer_set_checks, peer_changed, peer_set, peer_get, peer_dump, remove_peer, key_new_checks, key_made, key_new, key_get, key_swap, key_del, key_found, tx_look, rx_look, sent, settle, spend, released, key_released, act_step, step, is_there, is_retired, has_key, may_act, May}
 use Rattle.ov_model.specs.Runs.{Follows, IsRun, table_after, last_table}
 use Rattle.ov_model.specs.Path.{removed}
 use Rattle.ov_model.specs.Removals.{released_by, key_released_by, times}
@@ -175,9 +174,14 @@ key_id_stands : (x : ℕ) (key_id : KeyId) (p : Peer) (k : Key) → by_key_id ke
 key_id_stands x key_id p k is = found_stands (λ (q : Key). q.serial) (λ q. q.key_id.number == key_id.number) x (keys_in p.slots) k is
 
 pub reply_stands : (t : Table) (now : ℕ) (a : Act) → may_act t a ≡ true → Shows t (act_step t now a).reply
-unfolding peer_new peer_get key_new tx_look rx_look sent settle spend released key_released
+unfolding peer_new peer_set peer_get peer_dump key_new key_get key_swap key_del tx_look rx_look sent settle spend released key_released
 reply_stands t now (act.Do (command.PeerNew a)) may = found_has (Shown t) t now _ a.remote _ (nobody t) (λ remote is. unless_has (Shown t) t now (peer_new_checks t a remote) (peer_made t now a remote) (λ e. nobody t) (nobody t))
 reply_stands t now (act.Do (command.PeerGet id)) may = found_has (Shown t) t now _ (by_id id t.live) _ (nobody t) (λ p found. nobody t)
+reply_stands t now (act.Do (command.PeerSet a)) may = found_has (Shown t) t now _ (by_id a.id t.live) _ (nobody t) (λ p found. unless_has (Shown t) t now (peer_set_checks t a) (peer_changed t now a) (λ e. nobody t) (nobody t))
+reply_stands t now (act.Do command.PeerDump) may = nobody t
+reply_stands t now (act.Do (command.KeyGet id slot)) may = found_has (Shown t) t now _ (by_id id t.live) _ (nobody t) (λ p found. found_has (Shown t) t now _ (in_slot slot p.slots) _ (nobody t) (λ k has. nobody t))
+reply_stands t now (act.Do (command.KeySwap id)) may = found_has (Shown t) t now _ (by_id id t.live) _ (nobody t) (λ p found. nobody t)
+reply_stands t now (act.Do (command.KeyDel id slot)) may = found_has (Shown t) t now _ (by_id id t.live) _ (nobody t) (λ p found. nobody t)
 reply_stands t now (act.Do (command.Remove id reason)) may = removed_shows t now id reason
 reply_stands t now (act.Do (command.KeyNew c)) may = found_has (Shown t) t now _ (by_id c.peer t.live) _ (nobody t) (λ p found. unless_has (Shown t) t now (key_new_checks t) (key_made t now c p) (λ e. nobody t) (nobody t))
 reply_stands t now (act.TxLook a) may = look_shows t now (has_vpn a) (by_vpn a t.live) (λ p. p.slots.primary) refl (λ x q k is. primary_stands x q.slots.primary q.slots.secondary k is)
@@ -363,16 +367,7 @@ peer_new_room t now (act.Do (command.PeerNew a)) made =
     let P : Outcome → Type 0 = λ o. peer_made_by (act.Do (command.PeerNew a)) o.reply ≡ t.made ∷ [] → t.made < most_peers in
     found_has P t now _ a.remote _ (λ is. absurd (cc)) (λ remote at. unless_passed P t now (peer_new_checks t a remote) (peer_made t now a remote) (λ e is. absurd (cc))
     (λ passed is. let room : nat_le most_peers t.made ≡ false = passed.1.1.1.1.0 in grind (arith, nat_tests))) made
-peer_new_room t now (act.Do (command.PeerGet id)) is = absurd (cc)
-peer_new_room t now (act.Do (command.Remove id reason)) is = absurd (cc)
-peer_new_room t now (act.TxLook a) is = absurd (cc)
-peer_new_room t now (act.RxLook id key_id from) is = absurd (cc)
-peer_new_room t now (act.Sent peer inner outer ping) is = absurd (cc)
-peer_new_room t now (act.Settle peer from k inner outer) is = absurd (cc)
-peer_new_room t now (act.Spend peer key) is = absurd (cc)
-peer_new_room t now (act.Released serial) is = absurd (cc)
-peer_new_room t now (act.KeyReleased serial) is = absurd (cc)
-peer_new_room t now (act.Do (command.KeyNew c)) is = absurd (cc)
+peer_new_room t now _ is = absurd (cc)
 
 key_new_room : (t : Table) (now : ℕ) (a : Act) → key_made_by a (act_step t now a).reply ≡ t.keys_made ∷ [] → t.keys_made < most_keys
 unfolding key_new
@@ -380,16 +375,7 @@ key_new_room t now (act.Do (command.KeyNew c)) made =
     let P : Outcome → Type 0 = λ o. key_made_by (act.Do (command.KeyNew c)) o.reply ≡ t.keys_made ∷ [] → t.keys_made < most_keys in
     found_has P t now _ (by_id c.peer t.live) _ (λ is. absurd (cc)) (λ p found. unless_passed P t now (key_new_checks t) (key_made t now c p) (λ e is. absurd (cc))
     (λ passed is. let room : nat_le most_keys t.keys_made ≡ false = passed.0 in grind (arith, nat_tests))) made
-key_new_room t now (act.Do (command.PeerGet id)) is = absurd (cc)
-key_new_room t now (act.Do (command.Remove id reason)) is = absurd (cc)
-key_new_room t now (act.TxLook a) is = absurd (cc)
-key_new_room t now (act.RxLook id key_id from) is = absurd (cc)
-key_new_room t now (act.Sent peer inner outer ping) is = absurd (cc)
-key_new_room t now (act.Settle peer from k inner outer) is = absurd (cc)
-key_new_room t now (act.Spend peer key) is = absurd (cc)
-key_new_room t now (act.Released serial) is = absurd (cc)
-key_new_room t now (act.KeyReleased serial) is = absurd (cc)
-key_new_room t now (act.Do (command.PeerNew attrs)) is = absurd (cc)
+key_new_room t now _ is = absurd (cc)
 
 most_along : (count : Table → ℕ) (most : ℕ) → ((t : Table) (call : Call) → count t ≤ most → count (step t call).after ≤ most) → (t : Table) (es : List Entry) → count t ≤ most → count (table_after t es) ≤ most
 most_along count most keeps t [] below = below

@@ -41,7 +41,7 @@ bad_scope (Some n) = nat_lt 0 n
 abbrev pub only_one : Bool → Bool → Bool
 only_one a b = (a && not b) || (not a && b)
 
--- The remote address of peer-new. It has one family at most: `is_invalid` refuses both.
+-- The remote address of peer-new and peer-set. It has one family at most: `is_invalid` refuses both.
 abbrev pub remote_of_family : Option (List ℕ) → Option (List ℕ) → Option Addr
 remote_of_family (Some a) _ = Some (V4 a)
 remote_of_family None (Some a) = Some (V6 a)
@@ -51,7 +51,7 @@ remote_of_family None None = None
 abbrev pub remote_addr : NlPeer → Option Addr
 remote_addr p = remote_of_family p.remote_ipv4 p.remote_ipv6
 
--- Whether an attribute of peer-new is out of its range or stands without another that it needs.
+-- Whether an attribute of peer-new or peer-set is out of its range or stands without another that it needs.
 abbrev pub is_invalid : NlPeer → Bool
 is_invalid p =
     (is_some p.remote_ipv4 && is_some p.remote_ipv6) ||
@@ -67,7 +67,7 @@ abbrev pub transport_of : Option Addr → Option ℕ → Option Transport
 transport_of (Some a) (Some n) = Some (record { addr = a; port = n })
 transport_of _ _ = None
 
--- The keepalive of peer-new: both its numbers of seconds, and none without both.
+-- The keepalive of peer-new and peer-set: both its numbers of seconds, and none without both.
 abbrev pub keepalive_of : Option ℕ → Option ℕ → Option Keepalive
 keepalive_of (Some i) (Some t) = Some (record { interval = i; timeout = t })
 keepalive_of _ _ = None
@@ -77,13 +77,18 @@ keepalive_of _ _ = None
 abbrev pub attrs_of : PeerId → NlPeer → Attrs
 attrs_of id p = record { id = id; remote = transport_of (remote_addr p) p.remote_port; vpn4 = p.vpn_ipv4; vpn6 = p.vpn_ipv6; keepalive = keepalive_of p.keepalive_interval p.keepalive_timeout }
 
--- An operation on peers with its peer and its id. An operation on keys doesn't ask for a peer.
+-- peer-new and peer-set with their peer and its id: the attributes in their ranges.
+abbrev pub checked_attrs : (Attrs → Command) → NlPeer → PeerId → Result Command Errno
+checked_attrs make p id = if is_invalid p then Err Invalid else Ok (make (attrs_of id p))
+
+-- An operation on one peer with its peer and its id. The others don't ask for a peer.
 abbrev pub checked_peer : NlOp → NlPeer → Option PeerId → Result Command Errno
 checked_peer _ p None = Err Invalid
-checked_peer op.PeerNew p (Some id) = if is_invalid p then Err Invalid else Ok (command.PeerNew (attrs_of id p))
+checked_peer op.PeerNew p (Some id) = checked_attrs command.PeerNew p id
+checked_peer op.PeerSet p (Some id) = checked_attrs command.PeerSet p id
 checked_peer op.PeerGet p (Some id) = Ok (command.PeerGet id)
 checked_peer op.PeerDel p (Some id) = Ok (command.Remove id Userspace)
-checked_peer op.KeyNew p (Some id) = Err Invalid
+checked_peer _ p (Some id) = Err Invalid
 
 -- The command of an operation on peers: it needs a peer with an id of 24 bits.
 abbrev pub checked_with : NlOp → Option NlPeer → Result Command Errno
@@ -125,18 +130,46 @@ with_cipher (Some AesGcm) (Some c) = Ok (command.KeyNew c)
 with_cipher (Some other) (Some c) = Err NotSupported
 with_cipher _ _ = Err Invalid
 
--- The command of key-new: it needs all of its attributes, and the one cipher.
-abbrev pub checked_key : Option NlKeyConf → Result Command Errno
-checked_key None = Err Invalid
-checked_key (Some k) = with_cipher k.cipher (key_conf k)
+-- key-get and key-del: both need the peer's id and the slot.
+abbrev pub checked_slot : (PeerId → Slot → Command) → Option PeerId → Option Slot → Result Command Errno
+checked_slot make (Some id) (Some slot) = Ok (make id slot)
+checked_slot make _ _ = Err Invalid
 
--- The command by the message's operation: key-new looks at the key, the others at the peer.
+-- key-swap needs the peer's id.
+abbrev pub checked_swap : Option PeerId → Result Command Errno
+checked_swap (Some id) = Ok (command.KeySwap id)
+checked_swap None = Err Invalid
+
+-- An operation on keys with its attributes: key-new needs all of them, and the one cipher. The others don't
+-- ask for a key.
+abbrev pub checked_keyconf : NlOp → NlKeyConf → Result Command Errno
+checked_keyconf op.KeyNew k = with_cipher k.cipher (key_conf k)
+checked_keyconf op.KeyGet k = checked_slot command.KeyGet (option_and_then peer_id k.peer_id) k.slot
+checked_keyconf op.KeySwap k = checked_swap (option_and_then peer_id k.peer_id)
+checked_keyconf op.KeyDel k = checked_slot command.KeyDel (option_and_then peer_id k.peer_id) k.slot
+checked_keyconf _ k = Err Invalid
+
+-- The command of an operation on keys: it needs a key's attributes.
+abbrev pub checked_key : NlOp → Option NlKeyConf → Result Command Errno
+checked_key o None = Err Invalid
+checked_key o (Some k) = checked_keyconf o k
+
+-- The command by the message's operation: those on keys look at the key, those on one peer at the peer, and
+-- peer-dump at neither.
 abbrev pub checked_op : NlOp → NlMessage → Result Command Errno
-checked_op op.KeyNew m = checked_key m.keyconf
-checked_op o m = checked_with o m.peer
+checked_op op.PeerNew m = checked_with op.PeerNew m.peer
+checked_op op.PeerSet m = checked_with op.PeerSet m.peer
+checked_op op.PeerGet m = checked_with op.PeerGet m.peer
+checked_op op.PeerDel m = checked_with op.PeerDel m.peer
+checked_op op.PeerDump m = Ok command.PeerDump
+checked_op op.KeyNew m = checked_key op.KeyNew m.keyconf
+checked_op op.KeyGet m = checked_key op.KeyGet m.keyconf
+checked_op op.KeySwap m = checked_key op.KeySwap m.keyconf
+checked_op op.KeyDel m = checked_key op.KeyDel m.keyconf
 
--- The command of a message. Of an operation on peers Invalid comes where its peer or its id is missing,
--- the id is above 16777215, or an attribute of peer-new is invalid; of key-new where an attribute is
--- missing or out of its range. NotSupported comes of a key-new that is right but for its cipher.
+-- The command of a message. Of an operation on one peer Invalid comes where its peer or its id is missing,
+-- the id is above 16777215, or an attribute of peer-new or peer-set is invalid; of an operation on keys
+-- where an attribute that it needs is missing or out of its range. NotSupported comes of a key-new that is
+-- right but for its cipher.
 unfoldable pub checked : NlMessage → Result Command Errno
 checked m = checked_op m.op m

@@ -34,7 +34,7 @@ abbrev pub table_before : List Entry → ℕ → Table
 table_before journal n = table_after empty_table (take n journal)
 
 -- A line's datagram is delivered as a packet of the peer with an id.
-pub record Delivers (report : Report) (lane line : ℕ) (bytes : List ℕ) (id : PeerId) (packet : List ℕ) : Type 0 where
+pub record Delivers (via : Addr → Addr) (report : Report) (lane line : ℕ) (bytes : List ℕ) (id : PeerId) (packet : List ℕ) : Type 0 where
   -- The line's look-up held that peer and a key of it.
   pub hold : HoldView
   pub held : LooksUp report lane line hold
@@ -52,7 +52,8 @@ pub record Delivers (report : Report) (lane line : ℕ) (bytes : List ℕ) (id :
   pub key_is : replay.key ≡ hold.key
   pub packet_id_is : replay.id ≡ packet_id_of bytes
   pub fresh : replay.verdict ≡ Accept
-  -- When the packet was settled as one of that peer, the live peer with the VPN address of its source was the one that was held.
+  -- When the packet was settled as one of that peer, the live peer with the VPN address that is the next hop of
+  -- its source was the one that was held.
   pub settle : ℕ
   pub settle_entry : Entry
   pub settled : IsEntryOf report lane line settle settle_entry
@@ -60,13 +61,13 @@ pub record Delivers (report : Report) (lane line : ℕ) (bytes : List ℕ) (id :
   pub source : Addr
   pub source_is : kind_of packet ≡ from_source source
   pub owner : Peer
-  pub owner_is : by_vpn source (table_before report.journal settle).live ≡ Some owner
+  pub owner_is : by_vpn (via source) (table_before report.journal settle).live ≡ Some owner
   pub owns : owner.serial ≡ hold.peer
 
 -- An answered line that received a datagram is answered with a packet exactly where it delivers it.
-abbrev pub DeliversExactly : Report → Type 0
-DeliversExactly report = (lane line : ℕ) (from : Transport) (bytes : List ℕ) (a : Answer) → Receives report lane line from bytes → answer_at report.lanes lane line ≡ Some a
-    → (id : PeerId) (packet : List ℕ) → (a ≡ Delivered id packet) ↔ Delivers report lane line bytes id packet
+abbrev pub DeliversExactly : (Addr → Addr) → Report → Type 0
+DeliversExactly via report = (lane line : ℕ) (from : Transport) (bytes : List ℕ) (a : Answer) → Receives report lane line from bytes → answer_at report.lanes lane line ≡ Some a
+    → (id : PeerId) (packet : List ℕ) → (a ≡ Delivered id packet) ↔ Delivers via report lane line bytes id packet
 
 -- No line is answered with a packet but one that received a datagram.
 abbrev pub DeliversReceived : Report → Type 0

@@ -1,37 +1,44 @@
 -- Worked examples of the definitions, each computed from them: the replay rule at its edges, a datagram as a
--- client of OpenVPN sends it, inner packets, the messages of the netlink family, and the peer table's refusals.
+-- client of OpenVPN sends it, inner packets, the messages of the netlink family, next hops by routes, and the
+-- steps of the peer table with their refusals.
 -- The datagram's bytes are those that another implementation of AES-GCM makes of the same key and packet.
-use Rattle.std.specs.Prelude.{ℕ, ◌≡◌, List, [], ◌∷◌, Bool, true, false, Option, Some, None, Result, Ok, Err, ◌==◌, replicate}
+use Rattle.std.specs.Prelude.{ℕ, ◌≡◌, List, [], ◌∷◌, Option, Some, None, Ok, Err, replicate}
 use Rattle.ov_aes.specs.declared.key_bytes.KeyBytes.TheVariants.{K16}
-use Rattle.ov_base.specs.declared.address.Addr.TheVariants.{V4}
+use Rattle.ov_base.specs.declared.address.Addr.{Addr}
+use Rattle.ov_base.specs.declared.address.Addr.TheVariants.{V4, V6}
 use Rattle.ov_base.specs.declared.address.Transport.{Transport}
 use Rattle.ov_model.specs.declared.ident.PeerId.{PeerId}
 use Rattle.ov_model.specs.declared.ident.KeyId.{KeyId}
 use Rattle.ov_model.specs.declared.act.Act.TheVariants as act
+use Rattle.ov_model.specs.declared.act.InnerKind.TheVariants as inner_kind
 use Rattle.ov_model.specs.declared.command.Attrs.{Attrs}
+use Rattle.ov_model.specs.declared.command.Keepalive.{Keepalive}
 use Rattle.ov_model.specs.declared.command.KeyDir.{KeyDir}
-use Rattle.ov_model.specs.declared.command.Command.{Command}
 use Rattle.ov_model.specs.declared.command.Command.TheVariants as command
 use Rattle.ov_model.specs.declared.command.Reason.TheVariants.{Userspace}
-use Rattle.ov_model.specs.declared.command.Slot.TheVariants.{Primary}
+use Rattle.ov_model.specs.declared.command.Slot.{Slot}
+use Rattle.ov_model.specs.declared.command.Slot.TheVariants.{Primary, Secondary}
+use Rattle.ov_model.specs.declared.line.Deed.TheVariants as deed
+use Rattle.ov_model.specs.declared.line.Route.{Route}
 use Rattle.ov_model.specs.declared.netlink.NlMessage.{NlMessage}
 use Rattle.ov_model.specs.declared.netlink.NlPeer.{NlPeer}
-use Rattle.ov_model.specs.declared.netlink.NlKeyConf.{NlKeyConf}
 use Rattle.ov_model.specs.declared.netlink.NlKeyDir.{NlKeyDir}
 use Rattle.ov_model.specs.declared.netlink.NlOp.{NlOp}
 use Rattle.ov_model.specs.declared.netlink.NlOp.TheVariants as op
 use Rattle.ov_model.specs.declared.netlink.Cipher.{Cipher}
 use Rattle.ov_model.specs.declared.netlink.Cipher.TheVariants.{NoCipher, AesGcm, ChaCha20Poly1305}
-use Rattle.ov_model.specs.declared.reply.Errno.{Errno}
 use Rattle.ov_model.specs.declared.reply.Errno.TheVariants.{NoEntry, Exists, Invalid, NoSpace, NotSupported}
 use Rattle.ov_model.specs.declared.reply.Reply.TheVariants as reply
+use Rattle.ov_model.specs.declared.reply.Settled.TheVariants as settled
 use Rattle.ov_model.specs.declared.replay.Verdict.TheVariants.{Accept, Zero, Old, Below, Again}
 use Rattle.ov_model.specs.Checked.{checked}
 use Rattle.ov_model.specs.Ident.{peer_id, key_id}
 use Rattle.ov_model.specs.Packets.{short, data_v1, control, data_v2, head_of, datagram, opened, v4, v6, not_ip, inner_of, ping, kind_of, keepalive}
 use Rattle.ov_model.specs.Replay.{Accepted, verdict_of}
-use Rattle.ov_model.specs.Step.{Outcome, peer_of, hold_of, peer_new, step}
-use Rattle.ov_model.specs.Tables.{Key, Peer, Slots, Table, empty_table}
+use Rattle.ov_model.specs.Path.{first, begins, kind_via}
+use Rattle.ov_model.specs.Step.{peer_of, hold_of, settled_as, peer_new, peer_set, peer_dump, key_get, key_swap, key_del, tx_look, step}
+use Rattle.ov_model.specs.Tables.{Key, Peer, Table, empty_table, view_of}
+use Rattle.ov_model.specs.Via.{via_of}
 
 -- ---- the replay rule
 
@@ -131,6 +138,14 @@ transport_5 = record { addr = V4 (192 ∷ 0 ∷ 2 ∷ 5 ∷ []); port = 1194 }
 abbrev pub attrs_5 : PeerId → Attrs
 attrs_5 id = record { id = id; remote = Some transport_5; vpn4 = Some (10 ∷ 8 ∷ 0 ∷ 5 ∷ []); vpn6 = None; keepalive = None }
 
+-- A message of an operation on a slot of the peer 5.
+abbrev pub of_slot : NlOp → Option Slot → NlMessage
+of_slot o slot = record { op = o; ifindex = None; peer = None; keyconf = Some (record { peer_id = Some 5; slot = slot; key_id = None; cipher = None; encrypt = None; decrypt = None }) }
+
+-- A message without attributes.
+abbrev pub bare_message : NlOp → NlMessage
+bare_message o = record { op = o; ifindex = None; peer = None; keyconf = None }
+
 -- Its primary key with the key id 2, of a cipher, with keys of some bytes.
 abbrev pub of_key : Cipher → ℕ → NlMessage
 of_key c long =
@@ -146,6 +161,11 @@ pub record MessageExamples (id : PeerId) (key : KeyId) : Type 0 where
   pub peer_new : checked (of_peer op.PeerNew peer_5) ≡ Ok (command.PeerNew (attrs_5 id))
   pub peer_get : checked (of_peer op.PeerGet peer_5) ≡ Ok (command.PeerGet id)
   pub peer_del : checked (of_peer op.PeerDel peer_5) ≡ Ok (command.Remove id Userspace)
+  pub peer_set : checked (of_peer op.PeerSet peer_5) ≡ Ok (command.PeerSet (attrs_5 id))
+  pub peer_dump : checked (bare_message op.PeerDump) ≡ Ok command.PeerDump
+  pub key_get : checked (of_slot op.KeyGet (Some Primary)) ≡ Ok (command.KeyGet id Primary)
+  pub key_swap : checked (of_slot op.KeySwap None) ≡ Ok (command.KeySwap id)
+  pub key_del : checked (of_slot op.KeyDel (Some Secondary)) ≡ Ok (command.KeyDel id Secondary)
   pub key_new : checked (of_key AesGcm 16) ≡ Ok (command.KeyNew (record { peer = id; slot = Primary; key_id = key; encrypt = dir_5; decrypt = dir_5 }))
   -- no id; two remote addresses; a port without an address, and the port 0; half a keepalive
   pub no_id : checked (of_peer op.PeerDel no_attributes) ≡ Err Invalid
@@ -153,6 +173,12 @@ pub record MessageExamples (id : PeerId) (key : KeyId) : Type 0 where
   pub no_address : checked (of_peer op.PeerNew (record peer_5 { remote_ipv4 = None })) ≡ Err Invalid
   pub port_0 : checked (of_peer op.PeerNew (record peer_5 { remote_port = Some 0 })) ≡ Err Invalid
   pub half_keepalive : checked (of_peer op.PeerNew (record peer_5 { keepalive_interval = Some 10 })) ≡ Err Invalid
+  pub set_port_0 : checked (of_peer op.PeerSet (record peer_5 { remote_port = Some 0 })) ≡ Err Invalid
+  -- no slot; no peer and no key
+  pub no_slot : checked (of_slot op.KeyGet None) ≡ Err Invalid
+  pub no_slot_to_empty : checked (of_slot op.KeyDel None) ≡ Err Invalid
+  pub no_peer : checked (bare_message op.PeerGet) ≡ Err Invalid
+  pub no_key : checked (bare_message op.KeySwap) ≡ Err Invalid
   -- a key of 15 bytes, and ciphers that aren't taken
   pub short_key : checked (of_key AesGcm 15) ≡ Err Invalid
   pub none_cipher : checked (of_key NoCipher 16) ≡ Err NotSupported
@@ -169,9 +195,13 @@ live_5 id primary secondary = record (peer_of 0 0 (attrs_5 id) transport_5) { sl
 abbrev pub table_5 : PeerId → Option Key → Option Key → ℕ → Table
 table_5 id primary secondary made = record empty_table { live = live_5 id primary secondary ∷ []; made = made }
 
--- Attributes that share nothing with the peer 5.
+-- Where the peer 6 is reached.
+abbrev pub transport_6 : Transport
+transport_6 = record { addr = V4 (192 ∷ 0 ∷ 2 ∷ 6 ∷ []); port = 1194 }
+
+-- The attributes of the peer 6, which share nothing with the peer 5.
 abbrev pub apart : PeerId → Attrs
-apart other = record { id = other; remote = Some (record { addr = V4 (192 ∷ 0 ∷ 2 ∷ 6 ∷ []); port = 1194 }); vpn4 = Some (10 ∷ 8 ∷ 0 ∷ 6 ∷ []); vpn6 = None; keepalive = None }
+apart other = record { id = other; remote = Some transport_6; vpn4 = Some (10 ∷ 8 ∷ 0 ∷ 6 ∷ []); vpn6 = None; keepalive = None }
 
 -- peer-new while the peer 5 is live and 4,096 peers were made: each refusal stands before all that follow it.
 pub record NewExamples (id other : PeerId) : Type 0 where
@@ -182,6 +212,64 @@ pub record NewExamples (id other : PeerId) : Type 0 where
   pub remote_taken : (peer_new (table_5 id None None 4096) 0 (record (apart other) { remote = Some transport_5 })).reply ≡ reply.Refused Exists
   pub no_space : (peer_new (table_5 id None None 4096) 0 (apart other)).reply ≡ reply.Refused NoSpace
   pub last_one : (peer_new (table_5 id None None 4095) 0 (apart other)).reply ≡ reply.Made 4095
+
+-- The peer 6, live and without keys, and a table with the peers 5 and 6, made in this order.
+abbrev pub live_6 : PeerId → Peer
+live_6 other = peer_of 1 0 (apart other) transport_6
+
+abbrev pub both : PeerId → PeerId → Option Key → Table
+both id other primary = record empty_table { live = live_5 id primary None ∷ live_6 other ∷ []; made = 2 }
+
+-- Attributes that give nothing.
+abbrev pub nothing : PeerId → Attrs
+nothing id = record { id = id; remote = None; vpn4 = None; vpn6 = None; keepalive = None }
+
+-- A ping every 10 seconds, and the end after 60.
+abbrev pub often : Keepalive
+often = record { interval = 10; timeout = 60 }
+
+-- peer-set at the moment 7, while the peers 5 and 6 are live: what another peer has is taken, what is given
+-- replaces the old, and the rest stays, the keys too.
+pub record SetExamples (id other : PeerId) (k : Key) : Type 0 where
+  pub vpn_taken : (peer_set (both id other (Some k)) 7 (record (nothing id) { vpn4 = Some (10 ∷ 8 ∷ 0 ∷ 6 ∷ []) })).reply ≡ reply.Refused Exists
+  pub remote_taken : (peer_set (both id other (Some k)) 7 (record (nothing id) { remote = Some transport_6 })).reply ≡ reply.Refused Exists
+  pub by_the_second : (peer_set (both id other (Some k)) 7 (record (nothing other) { vpn4 = Some (10 ∷ 8 ∷ 0 ∷ 5 ∷ []) })).reply ≡ reply.Refused Exists
+  pub refused_stays : (peer_set (both id other (Some k)) 7 (record (nothing id) { remote = Some transport_6 })).after ≡ record (both id other (Some k)) { moment = 7 }
+  pub nobody : (peer_set empty_table 7 (nothing id)).reply ≡ reply.Refused NoEntry
+  -- its own addresses aren't taken
+  pub own : (peer_set (both id other (Some k)) 7 (attrs_5 id)).reply ≡ reply.Done
+  pub own_stays : (peer_set (both id other (Some k)) 7 (attrs_5 id)).after ≡ record (both id other (Some k)) { moment = 7 }
+  pub given : (peer_set (both id other (Some k)) 7 (record (nothing id) { vpn4 = Some (10 ∷ 8 ∷ 0 ∷ 7 ∷ []) })).after.live ≡ record (live_5 id (Some k) None) { vpn4 = Some (10 ∷ 8 ∷ 0 ∷ 7 ∷ []) } ∷ live_6 other ∷ []
+  -- a keepalive begins anew
+  pub keepalive : (peer_set (both id other (Some k)) 7 (record (nothing id) { keepalive = Some often })).after.live ≡ record (live_5 id (Some k) None) { keepalive = often; last_received = 7; last_sent = 7 } ∷ live_6 other ∷ []
+
+-- key-swap, key-get and key-del of the peer 5 with these keys.
+pub record SlotExamples (id : PeerId) (k l : Key) : Type 0 where
+  -- a swap of one primary key empties the primary slot, so that nothing is sent any more
+  pub swap : (key_swap (table_5 id (Some k) None 1) 0 id).after.live ≡ live_5 id None (Some k) ∷ []
+  pub no_key : (tx_look (key_swap (table_5 id (Some k) None 1) 0 id).after 0 (V4 (10 ∷ 8 ∷ 0 ∷ 5 ∷ []))).reply ≡ reply.NoKey
+  pub swap_both : (key_swap (table_5 id (Some k) (Some l) 1) 0 id).after.live ≡ live_5 id (Some l) (Some k) ∷ []
+  pub swap_takes_none : (key_swap (table_5 id (Some k) (Some l) 1) 0 id).taken ≡ []
+  -- a full slot shows its key, an empty one none
+  pub get : (key_get (table_5 id (Some k) None 1) 0 id Primary).reply ≡ reply.Key (record { peer = id; slot = Primary; key_id = k.key_id; cipher = AesGcm })
+  pub get_empty : (key_get (table_5 id (Some k) None 1) 0 id Secondary).reply ≡ reply.Refused NoEntry
+  -- what stood in the slot is retired, and an empty slot stays empty
+  pub del : (key_del (table_5 id (Some k) (Some l) 1) 0 id Primary).reply ≡ reply.Done
+  pub del_leaves : (key_del (table_5 id (Some k) (Some l) 1) 0 id Primary).after.live ≡ live_5 id None (Some l) ∷ []
+  pub del_takes : (key_del (table_5 id (Some k) (Some l) 1) 0 id Primary).taken ≡ k.serial ∷ []
+  pub del_retires : (key_del (table_5 id (Some k) (Some l) 1) 0 id Primary).after.retired ≡ k ∷ []
+  pub del_empty : (key_del (table_5 id (Some k) None 1) 0 id Secondary).reply ≡ reply.Done
+  pub del_empty_takes : (key_del (table_5 id (Some k) None 1) 0 id Secondary).taken ≡ []
+  -- no such peer
+  pub swap_nobody : (key_swap empty_table 0 id).reply ≡ reply.Refused NoEntry
+  pub get_nobody : (key_get empty_table 0 id Primary).reply ≡ reply.Refused NoEntry
+  pub del_nobody : (key_del empty_table 0 id Primary).reply ≡ reply.Refused NoEntry
+
+-- peer-get of all peers: the ids 5 and 6 are shown in this order, in whichever order the peers were made.
+pub record DumpExamples (id other : PeerId) : Type 0 where
+  pub none : (peer_dump empty_table 0).reply ≡ reply.Peers []
+  pub as_made : (peer_dump (both id other None) 0).reply ≡ reply.Peers (view_of (live_5 id None None) ∷ view_of (live_6 other) ∷ [])
+  pub other_way : (peer_dump (record (both id other None) { live = live_6 other ∷ live_5 id None None ∷ [] }) 0).reply ≡ reply.Peers (view_of (live_5 id None None) ∷ view_of (live_6 other) ∷ [])
 
 -- The look-ups where both slots hold a key: what is sent takes the primary one, what is received the one with
 -- the key id. A table's moment never falls.
@@ -198,3 +286,70 @@ pub record IdExamples : Type 0 where
   pub five : (id : PeerId) → peer_id 5 ≡ Some id → id.number ≡ 5
   pub no_25_bits : peer_id 16777216 ≡ None
   pub no_4_bits : key_id 8 ≡ None
+
+-- ---- routes
+
+-- An IPv4 address of four bytes, and fd00::5 of IPv6.
+abbrev pub at_v4 : (a b c d : ℕ) → Addr
+at_v4 a b c d = V4 (a ∷ b ∷ c ∷ d ∷ [])
+
+abbrev pub at_v6 : Addr
+at_v6 = V6 (253 ∷ 0 ∷ 0 ∷ 0 ∷ 0 ∷ 0 ∷ 0 ∷ 0 ∷ 0 ∷ 0 ∷ 0 ∷ 0 ∷ 0 ∷ 0 ∷ 0 ∷ 5 ∷ [])
+
+-- 192.168.5.0/24 is behind the peer 5, 192.168.0.0/16 behind the peer 6, and all else behind 10.8.0.1.
+abbrev pub to_5 : Route
+to_5 = record { prefix = at_v4 192 168 5 0; length = 24; hop = at_v4 10 8 0 5 }
+
+abbrev pub to_6 : Route
+to_6 = record { prefix = at_v4 192 168 0 0; length = 16; hop = at_v4 10 8 0 6 }
+
+abbrev pub to_all : Route
+to_all = record { prefix = at_v4 0 0 0 0; length = 0; hop = at_v4 10 8 0 1 }
+
+-- fd00::/8 is behind fd00::5.
+abbrev pub to_v6 : Route
+to_v6 = record { prefix = V6 (253 ∷ replicate 15 0); length = 8; hop = at_v6 }
+
+-- The next hop by some routes.
+pub record ViaExamples : Type 0 where
+  pub no_routes : via_of [] (at_v4 192 168 5 9) ≡ at_v4 192 168 5 9
+  pub one : via_of (to_5 ∷ []) (at_v4 192 168 5 9) ≡ at_v4 10 8 0 5
+  pub elsewhere : via_of (to_5 ∷ []) (at_v4 192 168 4 255) ≡ at_v4 192 168 4 255
+  -- the longest wins, wherever it stands
+  pub long_first : via_of (to_5 ∷ to_6 ∷ []) (at_v4 192 168 5 9) ≡ at_v4 10 8 0 5
+  pub long_last : via_of (to_6 ∷ to_5 ∷ []) (at_v4 192 168 5 9) ≡ at_v4 10 8 0 5
+  pub short_alone : via_of (to_5 ∷ to_6 ∷ []) (at_v4 192 168 6 9) ≡ at_v4 10 8 0 6
+  -- the later one wins among equals
+  pub later : via_of (to_5 ∷ record to_5 { hop = at_v4 10 8 0 7 } ∷ []) (at_v4 192 168 5 9) ≡ at_v4 10 8 0 7
+  -- a hop isn't looked up again
+  pub hop : via_of (to_5 ∷ to_all ∷ []) (at_v4 192 168 5 9) ≡ at_v4 10 8 0 5
+  pub hop_itself : via_of (to_5 ∷ to_all ∷ []) (at_v4 10 8 0 5) ≡ at_v4 10 8 0 1
+  -- no bits match all addresses of the family, and none of the other
+  pub all : via_of (to_all ∷ []) (at_v4 203 0 113 9) ≡ at_v4 10 8 0 1
+  pub other_family : via_of (to_all ∷ []) at_v6 ≡ at_v6
+  -- bits past the length don't count, the last within it does
+  pub past : via_of (record to_5 { prefix = at_v4 192 168 5 77 } ∷ []) (at_v4 192 168 5 9) ≡ at_v4 10 8 0 5
+  pub last_bit : via_of (record to_5 { length = 31 } ∷ []) (at_v4 192 168 5 1) ≡ at_v4 10 8 0 5
+  pub next_bit : via_of (record to_5 { length = 32 } ∷ []) (at_v4 192 168 5 1) ≡ at_v4 192 168 5 1
+  -- all 32 bits, and one more than there are
+  pub whole : via_of (record to_5 { length = 32 } ∷ []) (at_v4 192 168 5 0) ≡ at_v4 10 8 0 5
+  pub too_long : via_of (record to_5 { length = 33 } ∷ []) (at_v4 192 168 5 0) ≡ at_v4 192 168 5 0
+  -- the same of IPv6
+  pub of_v6 : via_of (to_v6 ∷ []) (V6 (253 ∷ replicate 15 255)) ≡ at_v6
+  pub not_v6 : via_of (to_v6 ∷ []) (V6 (252 ∷ replicate 15 255)) ≡ V6 (252 ∷ replicate 15 255)
+  pub whole_v6 : via_of (record to_v6 { length = 128 } ∷ []) (V6 (253 ∷ replicate 15 0)) ≡ at_v6
+  pub too_long_v6 : via_of (record to_v6 { length = 129 } ∷ []) (V6 (253 ∷ replicate 15 0)) ≡ V6 (253 ∷ replicate 15 0)
+
+-- A packet of IPv4 from 192.168.5.9 to 192.168.5.9.
+abbrev pub routed_packet : List ℕ
+routed_packet = 69 ∷ 0 ∷ 0 ∷ 20 ∷ 0 ∷ 0 ∷ 0 ∷ 0 ∷ 0 ∷ 0 ∷ 0 ∷ 0 ∷ 192 ∷ 168 ∷ 5 ∷ 9 ∷ 192 ∷ 168 ∷ 5 ∷ 9 ∷ []
+
+-- A packet to the route's prefix is looked up by its hop and held for the peer 5, and one from there is the
+-- peer 5's; without the route it is nobody's.
+pub record RouteExample (id : PeerId) (k : Key) : Type 0 where
+  pub looked_up : begins (via_of (to_5 ∷ [])) (deed.Tx routed_packet) ≡ first (act.TxLook (at_v4 10 8 0 5))
+  pub held : (tx_look (table_5 id (Some k) None 1) 0 (via_of (to_5 ∷ []) (at_v4 192 168 5 9))).reply ≡ reply.Hold (hold_of (live_5 id (Some k) None) k)
+  pub no_peer : (tx_look (table_5 id (Some k) None 1) 0 (via_of [] (at_v4 192 168 5 9))).reply ≡ reply.NoPeer
+  pub kind : kind_via (via_of (to_5 ∷ [])) (kind_of routed_packet) ≡ inner_kind.From (at_v4 10 8 0 5)
+  pub delivered : settled_as 0 (kind_via (via_of (to_5 ∷ [])) (kind_of routed_packet)) (live_5 id (Some k) None ∷ []) ≡ settled.Deliver
+  pub not_owner : settled_as 0 (kind_via (via_of []) (kind_of routed_packet)) (live_5 id (Some k) None ∷ []) ≡ settled.NotOwner

@@ -1,5 +1,5 @@
--- A lane that runs: the form of LaneMeets that holds while its next line is under way.
-use Rattle.std.specs.Prelude.{ℕ, ◌≡◌, ◌<◌, ◌≤◌, List, Option, length}
+-- A lane that runs: the form of LaneMeets that holds while its next line is under way, and shards with one more step.
+use Rattle.std.specs.Prelude.{ℕ, ◌≡◌, ◌<◌, ◌≤◌, zero, suc, List, [], ◌∷◌, ◌++◌, Option, length}
 use Rattle.std.specs.List.{AllByRecursion}
 use Rattle.ov_base.specs.declared.address.Addr.{Addr}
 use Rattle.ov_model.specs.declared.line.Line.{Line}
@@ -18,3 +18,9 @@ pub record LaneRuns (material : ℕ → Option Material) (via : Addr → Addr) (
   pub each : (i : ℕ) → i < length answers → Meets material via steps shards lane lines answers i
   pub under_way : of steps lane (length answers) ≡ now
   pub judging : shown_in shards lane (length answers) ≡ judged
+
+-- The shards with one more step at the end of one of them.
+abbrev pub judged_in : List (List ReplayEntry) → ℕ → ReplayEntry → List (List ReplayEntry)
+judged_in [] k r = []
+judged_in (rs ∷ shards) zero r = (rs ++ r ∷ []) ∷ shards
+judged_in (rs ∷ shards) (suc k) r = rs ∷ judged_in shards k r

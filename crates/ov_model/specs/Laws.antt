@@ -2,6 +2,7 @@
 use Rattle.std.specs.Prelude.{ℕ, ◌≡◌, List, Option, Some, slice_get}
 use Rattle.std.specs.Option.{option_and_then}
 use Rattle.ov_aes.specs.Aes.{key_list}
+use Rattle.ov_base.specs.declared.address.Addr.{Addr}
 use Rattle.ov_base.specs.declared.address.Transport.{Transport}
 use Rattle.ov_model.specs.declared.answer.Answer.{Answer}
 use Rattle.ov_model.specs.declared.answer.Answer.TheVariants as answer
@@ -20,11 +21,16 @@ use Rattle.ov_model.specs.declared.report.Report.{Report}
 use Rattle.ov_model.specs.Tables.{Material}
 use Rattle.ov_model.specs.Keys.{key_of}
 use Rattle.ov_model.specs.Legal.{Legal}
+use Rattle.ov_model.specs.Via.{via_of}
 use Rattle.ov_model.specs.Packets.{datagram, nonce_of}
 
 -- What holds of every legal report, whatever its script and the first packet id of the keys.
 abbrev pub OfEveryLegal : (Report → Type 0) → Type 0
 OfEveryLegal P = (script : Script) (first : ℕ) (report : Report) → Legal script first report → P report
+
+-- What holds of every legal report and the next hops by its script's routes.
+abbrev pub OfEveryRouted : ((Addr → Addr) → Report → Type 0) → Type 0
+OfEveryRouted P = (script : Script) (first : ℕ) (report : Report) → Legal script first report → P (via_of script.routes) report
 
 -- ---- a line of a report
 

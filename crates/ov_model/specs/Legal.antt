@@ -13,6 +13,7 @@ use Rattle.ov_model.specs.Runs.{IsRun, notes_of}
 use Rattle.ov_model.specs.Events.{Step, of, shown_in, steps_of}
 use Rattle.ov_model.specs.Tables.{Material}
 use Rattle.ov_model.specs.Path.{Path}
+use Rattle.ov_model.specs.Via.{via_of}
 use Rattle.ov_model.specs.Keys.{key_of, IdsCount}
 use Rattle.ov_model.specs.Replay.{ShardJudges}
 use Rattle.ov_model.specs.Removals.{RemovalsNoted, AllReleased}
@@ -84,11 +85,11 @@ abbrev pub RemovalsAreNoted : Report → Type 0
 RemovalsAreNoted report = RemovalsNoted report.journal report.notes
 
 -- A script's report, where all send counters began at `first`. A key's serial stands for the key that the
--- journal installed under it, and without routes the next hop of an address is the address itself.
+-- journal installed under it, and the next hop of an address is that of the script's routes.
 pub record Legal (script : Script) (first : ℕ) (report : Report) : Type 0 where
   pub lanes : LanesMatch script report
   pub journal : JournalRuns report
-  pub lines : LinesFollowPath (key_of report.journal) (λ a. a) report
+  pub lines : LinesFollowPath (key_of report.journal) (via_of script.routes) report
   pub shards : ShardsJudge report
   pub ids : IdsCount first report
   pub removals : RemovalsAreNoted report

@@ -5,6 +5,7 @@ pub mod Step
 pub mod Runs
 pub mod Checked
 pub mod Packets
+pub mod Via
 pub mod Events
 pub mod Path
 pub mod Sizes

@@ -148,6 +148,7 @@ abbrev pub asks_held : Option Material → HoldView → Deed → Ask
 asks_held m h (deed.Tx packet) = Draw h.key
 asks_held m h (deed.Rx from bytes) = asks_open h bytes m
 asks_held m h (deed.Netlink n) = Over
+asks_held m h (deed.Lost id reason) = Over
 
 -- After a draw: the packet was sealed, or the key is spent.
 abbrev pub asks_drawn : HoldView → Drawn → Deed → Ask

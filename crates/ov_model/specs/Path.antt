@@ -13,6 +13,7 @@ use Rattle.ov_model.specs.declared.act.Act.TheVariants as act
 use Rattle.ov_model.specs.declared.act.InnerKind.{InnerKind}
 use Rattle.ov_model.specs.declared.act.InnerKind.TheVariants as inner_kind
 use Rattle.ov_model.specs.declared.command.Command.{Command}
+use Rattle.ov_model.specs.declared.command.Command.TheVariants as command
 use Rattle.ov_model.specs.declared.hold.Owed.{Owed}
 use Rattle.ov_model.specs.declared.hold.Owed.TheVariants as owed
 use Rattle.ov_model.specs.declared.reply.Errno.{Errno}
@@ -72,11 +73,12 @@ begins_rx from data_v1 = at_once (answer.Dropped drop.DataV1)
 begins_rx from control = at_once answer.Control
 begins_rx from (data_v2 id key n) = rx_look_by (peer_id id) (key_id key) from
 
--- How a line begins, by what it has to do.
+-- How a line begins, by what it has to do. A lost transport removes its peer.
 abbrev pub begins : (Addr → Addr) → Deed → Begin
 begins via (deed.Netlink m) = begins_netlink (checked m)
 begins via (deed.Tx packet) = begins_tx via (inner_of packet)
 begins via (deed.Rx from bytes) = begins_rx from (head_of bytes)
+begins via (deed.Lost id reason) = first (act.Do (command.Remove id reason))
 
 -- ---- releases
 
@@ -116,6 +118,7 @@ abbrev pub packet_in : Deed → Material → List ℕ
 packet_in (deed.Tx packet) m = packet
 packet_in (deed.Rx from bytes) m = unwrap_or (opened m.decrypt bytes) []
 packet_in (deed.Netlink n) m = []
+packet_in (deed.Lost id reason) m = []
 
 -- A datagram has the head and the tag more than its inner packet.
 abbrev pub outer_length : ℕ → ℕ
@@ -231,6 +234,7 @@ abbrev pub use_row : (Addr → Addr) → Place → ℕ → Deed → HoldView →
 use_row via place at (deed.Tx packet) h m u = tx_row place at h m packet u
 use_row via place at (deed.Rx from bytes) h m u = rx_row via place at h (packet_in (deed.Rx from bytes) m) bytes u
 use_row via place at (deed.Netlink n) h m u = no_row
+use_row via place at (deed.Lost id reason) h m u = no_row
 
 -- A peer and its key are looked up, held, used and given back: the look-up with its hold, the material of
 -- the key, what the line made of it, and whether it released the key and the peer.
@@ -275,7 +279,8 @@ pub record AtOnceRow (via : Addr → Addr) (line : Line) (steps : List Step) (ju
   pub steps_are : steps ≡ []
   pub judgements_are : judgements ≡ []
 
--- A command with its reply, the keys that it took out of a slot, and the releases that the line made.
+-- A command, a message's or that of a lost transport, with its reply, the keys that it took out of a slot, and
+-- the releases that the line made.
 pub record CommandRow (via : Addr → Addr) (place : Place) (line : Line) (steps : List Step) (judgements : List Judgement) (a : Answer) : Type 0 where
   pub command : Command
   pub r : Reply

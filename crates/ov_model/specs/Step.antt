@@ -2,6 +2,7 @@
 -- slot, and its notifications. One definition for each act, its refusals in their order.
 use Rattle.std.specs.Prelude.{ℕ, ◌+◌, ◌-◌, ◌^◌, ◌≡◌, max, min, List, [], ◌∷◌, ◌++◌, Bool, true, false, Option, Some, None, is_some, is_none, if◌then◌else◌, nat_le, ◌==◌, ◌&&◌, ◌||◌, map, unwrap_or}
 use Rattle.std.specs.List.{list_any}
+use Rattle.std.specs.Option.{option_or}
 use Rattle.ov_base.specs.declared.address.Addr.{Addr}
 use Rattle.ov_base.specs.declared.address.Transport.{Transport}
 use Rattle.ov_model.specs.declared.ident.PeerId.{PeerId}
@@ -22,6 +23,8 @@ use Rattle.ov_model.specs.declared.reply.Counts.{Counts}
 use Rattle.ov_model.specs.declared.reply.Errno.{Errno}
 use Rattle.ov_model.specs.declared.reply.Errno.TheVariants.{NoEntry, Exists, Invalid, NoSpace}
 use Rattle.ov_model.specs.declared.reply.HoldView.{HoldView}
+use Rattle.ov_model.specs.declared.reply.KeyView.{KeyView}
+use Rattle.ov_model.specs.declared.netlink.Cipher.TheVariants.{AesGcm}
 use Rattle.ov_model.specs.declared.reply.Settled.{Settled}
 use Rattle.ov_model.specs.declared.reply.Settled.TheVariants as settled
 use Rattle.ov_model.specs.declared.reply.Reply.{Reply}
@@ -29,7 +32,7 @@ use Rattle.ov_model.specs.declared.reply.Reply.TheVariants as reply
 use Rattle.ov_model.specs.declared.note.NoteBody.{NoteBody}
 use Rattle.ov_model.specs.declared.note.NoteBody.TheVariants as note
 use Rattle.ov_model.specs.Limits.{most_peers, most_keys, greatest_peer_id}
-use Rattle.ov_model.specs.Tables.{Peer, Key, Table, change_first, without_first, has_id, has_serial, by_id, by_serial, by_remote, by_vpn, shares_vpn, view_of, bare, serials_of, no_keys, in_slot, with_slot, key_if_any, keys_of, key_serials, by_key_id, by_key, without_key}
+use Rattle.ov_model.specs.Tables.{Peer, Key, Slots, Table, change_first, without_first, has_id, has_serial, by_id, by_serial, by_remote, by_vpn, shares_vpn, view_of, bare, serials_of, no_keys, in_slot, with_slot, key_if_any, keys_of, key_serials, by_key_id, by_key, without_key, swapped, by_rising_id}
 
 -- What a step makes: the table after it, its reply, the serials of the keys that left their slot, in
 -- order, and its notes, in order.
@@ -99,9 +102,47 @@ peer_new_at t now a remote = unless t now (peer_new_checks t a remote) (peer_mad
 unfoldable pub peer_new : Table → ℕ → Attrs → Outcome
 peer_new t now a = where_found t now (reply.Refused Invalid) a.remote (peer_new_at t now a)
 
--- peer-get: what the live peer with an id shows.
+-- A moment becomes now where a keepalive is given.
+abbrev pub set_moment : Option Keepalive → (now was : ℕ) → ℕ
+set_moment None now was = was
+set_moment (Some k) now was = now
+
+-- The peer after peer-set: what is given replaces the old, the rest stays. A keepalive that is given begins
+-- anew: both moments are now.
+abbrev pub set_peer : ℕ → Attrs → Peer → Peer
+set_peer now a p = record p { remote = unwrap_or a.remote p.remote; vpn4 = option_or a.vpn4 p.vpn4; vpn6 = option_or a.vpn6 p.vpn6; keepalive = unwrap_or a.keepalive p.keepalive; last_received = set_moment a.keepalive now p.last_received; last_sent = set_moment a.keepalive now p.last_sent }
+
+-- Whether a transport that is given is the remote of one of some peers.
+abbrev pub takes_remote : Option Transport → List Peer → Bool
+takes_remote None peers = false
+takes_remote (Some remote) peers = is_some (by_remote remote peers)
+
+-- The live peers but the one with an id.
+abbrev pub others : PeerId → List Peer → List Peer
+others id live = without_first (has_id id) live
+
+-- The refusals of peer-set, once its peer was found: VPN addresses and remote transports are unique.
+abbrev pub peer_set_checks : Table → Attrs → List Check
+peer_set_checks t a =
+    refuse Exists (list_any (shares_vpn a) (others a.id t.live)) ∷
+    refuse Exists (takes_remote a.remote (others a.id t.live)) ∷ []
+
+-- The live peer with the attributes' id is changed.
+abbrev pub peer_changed : Table → ℕ → Attrs → Outcome
+peer_changed t now a = replied (record t { live = change_first (has_id a.id) (set_peer now a) t.live }) now reply.Done
+
+-- peer-set of the live peer with an id.
+unfoldable pub peer_set : Table → ℕ → Attrs → Outcome
+peer_set t now a = where_found t now (reply.Refused NoEntry) (by_id a.id t.live)
+    (λ p. unless t now (peer_set_checks t a) (peer_changed t now a))
+
+-- peer-get of one peer: what the live peer with an id shows.
 unfoldable pub peer_get : Table → ℕ → PeerId → Outcome
 peer_get t now id = where_found t now (reply.Refused NoEntry) (by_id id t.live) (λ p. replied t now (reply.Peer (view_of p)))
+
+-- peer-get of all peers: what each live peer shows, by rising id.
+unfoldable pub peer_dump : Table → ℕ → Outcome
+peer_dump t now = replied t now (reply.Peers (map view_of (by_rising_id t.live)))
 
 -- The removal of the live peers `gone`, in this order, which leaves the live peers `left`: they join the
 -- dying list, the keys of their slots join the retired ones, and one peer-del note each tells their ids and
@@ -145,6 +186,38 @@ key_new_checks t = refuse NoSpace (nat_le most_keys t.keys_made) ∷ []
 unfoldable pub key_new : Table → ℕ → KeyConf → Outcome
 key_new t now c = where_found t now (reply.Refused NoEntry) (by_id c.peer t.live)
     (λ p. unless t now (key_new_checks t) (key_made t now c p))
+
+-- What key-get shows of a key. AES-GCM is the one cipher that is taken.
+abbrev pub key_view : PeerId → Slot → Key → KeyView
+key_view id slot k = record { peer = id; slot = slot; key_id = k.key_id; cipher = AesGcm }
+
+-- key-get: what the key in a slot of the live peer with an id is called.
+unfoldable pub key_get : Table → ℕ → PeerId → Slot → Outcome
+key_get t now id slot = where_found t now (reply.Refused NoEntry) (by_id id t.live)
+    (λ p. where_found t now (reply.Refused NoEntry) (in_slot slot p.slots)
+    (λ k. replied t now (reply.Key (key_view id slot k))))
+
+-- A peer with its slots changed.
+abbrev pub with_slots : (Slots → Slots) → Peer → Peer
+with_slots change p = record p { slots = change p.slots }
+
+-- The slots of the live peer with an id are changed, and the keys that left them are retired.
+abbrev pub slots_changed : Table → ℕ → PeerId → (Slots → Slots) → List Key → Outcome
+slots_changed t now id change out = record {
+  after = record t { live = change_first (has_id id) (with_slots change) t.live; retired = t.retired ++ out; moment = now };
+  reply = reply.Done;
+  taken = key_serials out;
+  notes = [];
+}
+
+-- key-swap: the keys in the slots of the live peer with an id change places.
+unfoldable pub key_swap : Table → ℕ → PeerId → Outcome
+key_swap t now id = where_found t now (reply.Refused NoEntry) (by_id id t.live) (λ p. slots_changed t now id swapped [])
+
+-- key-del: a slot of the live peer with an id becomes empty; the key that stood there is retired.
+unfoldable pub key_del : Table → ℕ → PeerId → Slot → Outcome
+key_del t now id slot = where_found t now (reply.Refused NoEntry) (by_id id t.live)
+    (λ p. slots_changed t now id (with_slot slot None) (key_if_any (in_slot slot p.slots)))
 
 -- ---- look-ups
 
@@ -268,9 +341,14 @@ key_released t now serial = replied (record t { retired = without_first (has_key
 -- The step of a command.
 abbrev pub command_step : Table → ℕ → Command → Outcome
 command_step t now (command.PeerNew a) = peer_new t now a
+command_step t now (command.PeerSet a) = peer_set t now a
 command_step t now (command.PeerGet id) = peer_get t now id
+command_step t now command.PeerDump = peer_dump t now
 command_step t now (command.Remove id reason) = remove_peer t now id reason
 command_step t now (command.KeyNew c) = key_new t now c
+command_step t now (command.KeyGet id slot) = key_get t now id slot
+command_step t now (command.KeySwap id) = key_swap t now id
+command_step t now (command.KeyDel id slot) = key_del t now id slot
 
 -- The step of an act at a moment.
 abbrev pub act_step : Table → ℕ → Act → Outcome

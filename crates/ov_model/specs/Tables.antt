@@ -1,5 +1,5 @@
 -- The state of the peer table: lists in the order of making. The code may find peers by other means.
-use Rattle.std.specs.Prelude.{ℕ, List, [], ◌∷◌, ◌++◌, Bool, Option, Some, None, find, map, ◌==◌, ◌||◌, false, if◌then◌else◌}
+use Rattle.std.specs.Prelude.{ℕ, List, [], ◌∷◌, ◌++◌, Bool, Option, Some, None, find, map, nat_lt, ◌==◌, ◌||◌, false, if◌then◌else◌}
 use Rattle.std.specs.Str.{bytes_eq}
 use Rattle.ov_base.specs.declared.address.Addr.{Addr}
 use Rattle.ov_base.specs.declared.address.Addr.TheVariants.{V4, V6}
@@ -90,6 +90,10 @@ abbrev pub with_slot : Slot → Option Key → Slots → Slots
 with_slot Primary k s = record s { primary = k }
 with_slot Secondary k s = record s { secondary = k }
 
+-- The keys of the two slots change places.
+abbrev pub swapped : Slots → Slots
+swapped s = record { primary = s.secondary; secondary = s.primary }
+
 -- The key of a slot as a list.
 abbrev pub key_if_any : Option Key → List Key
 key_if_any None = []
@@ -170,6 +174,16 @@ has_vpn (V6 a) p = same_vpn p.vpn6 (Some a)
 -- The peer with a VPN address: the first that has it.
 abbrev pub by_vpn : Addr → List Peer → Option Peer
 by_vpn a peers = find (has_vpn a) peers
+
+-- A peer goes before the first one that has a greater id.
+abbrev pub put_by_id : Peer → List Peer → List Peer
+put_by_id p [] = p ∷ []
+put_by_id p (q ∷ qs) = if nat_lt p.id.number q.id.number then p ∷ q ∷ qs else (q ∷ put_by_id p qs)
+
+-- The peers by rising id.
+abbrev pub by_rising_id : List Peer → List Peer
+by_rising_id [] = []
+by_rising_id (p ∷ ps) = put_by_id p (by_rising_id ps)
 
 -- Whether one of the VPN addresses in some attributes is one of a peer's.
 abbrev pub shares_vpn : Attrs → Peer → Bool

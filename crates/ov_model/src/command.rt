@@ -82,9 +82,19 @@ pub struct KeyConf {
 #[derive(Clone, Copy, Debug, PartialEq, Eq)]
 pub enum Command {
     PeerNew(Attrs),
+    /// What is given replaces what the peer has; the rest stays.
+    PeerSet(Attrs),
     PeerGet(PeerId),
+    /// The operation peer-get without a peer: all live peers are shown.
+    PeerDump,
     /// The operation peer-del, with the reason that its note will give.
     Remove(PeerId, Reason),
     /// The operation key-new: the key replaces what stands in its slot.
     KeyNew(KeyConf),
+    /// What the key in a slot is called. Its bytes are never shown.
+    KeyGet(PeerId, Slot),
+    /// The keys of the two slots change places.
+    KeySwap(PeerId),
+    /// The key in a slot is taken out.
+    KeyDel(PeerId, Slot),
 }

@@ -5,14 +5,14 @@ ghost use Rattle.ov_model.specs.declared.entry.Entry.{Entry};
 ghost use Rattle.ov_model.specs.Runs.{IsRun, notes_of};
 ghost use Rattle.ov_model.specs.Removals.{RemovalsNoted, AllReleased, EachReleasedOnce};
 ghost use Rattle.ov_model.specs.Keys.{KeysDiffer};
-ghost use Rattle.ov_model.specs.Laws.{OfEveryLegal, SealsUnderHeld, NoncesDiffer, AcceptsOnce};
+ghost use Rattle.ov_model.specs.Laws.{OfEveryLegal, OfEveryRouted, SealsUnderHeld, NoncesDiffer, AcceptsOnce};
 ghost use Rattle.ov_model.specs.Delivery.{DeliversExactly, DeliversReceived, DeliversOnce};
 ghost use Rattle.ov_model.specs.declared.ident.KeyId.{KeyId};
 ghost use Rattle.ov_model.specs.declared.ident.PeerId.{PeerId};
 ghost use Rattle.ov_model.specs.Ident.{peer_id, key_id};
 ghost use Rattle.ov_model.specs.Lifetime.{PeersStayReleased, KeysStayReleased};
 ghost use Rattle.ov_model.specs.Tables.{Key};
-ghost use Rattle.ov_model.specs.Examples.{WindowExamples, DatagramExamples, InnerExamples, MessageExamples, NewExamples, LookExamples, IdExamples};
+ghost use Rattle.ov_model.specs.Examples.{WindowExamples, DatagramExamples, InnerExamples, MessageExamples, NewExamples, SetExamples, SlotExamples, DumpExamples, LookExamples, IdExamples, ViaExamples, RouteExample};
 
 /// In every run the notes of each removal are those of the removed peers, in order, with the reason,
 /// and no peer is removed twice. Each entry that killed a key has exactly one key-swap note, no other entry
@@ -44,10 +44,10 @@ pub fn n2()
 /// The delivery law: in every legal report an answered line that received a datagram is answered with a
 /// packet of a peer exactly where its look-up held that peer and a key of it, the tag verifies under this
 /// key and this is the packet that it opens to, the line's replay step accepted the datagram's packet id
-/// under this key, and the peer with the VPN address of the packet's source was this very peer when the
-/// packet was settled. No other line is answered so.
+/// under this key, and the peer with the VPN address that is the next hop of the packet's source, by the
+/// script's routes, was this very peer when the packet was settled. No other line is answered so.
 pub fn n3()
-    ensures delivered { OfEveryLegal DeliversExactly }
+    ensures delivered { OfEveryRouted DeliversExactly }
     ensures received { OfEveryLegal DeliversReceived }
 {}
 
@@ -69,7 +69,8 @@ pub fn n4()
 
 /// Worked examples of the definitions, each computed from them: where the replay window ends and where a gap
 /// makes a floor, what a datagram and an inner packet are read as, how a datagram opens and doesn't, what
-/// becomes of a message of each operation, the refusals of peer-new in their order, and the look-ups.
+/// becomes of a message of each operation, the refusals of peer-new in their order, what peer-set replaces and
+/// refuses, the operations on slots, the order of a dump, the look-ups, and the next hop by routes.
 pub fn examples()
     ensures window { WindowExamples }
     ensures datagrams { DatagramExamples }
@@ -78,6 +79,12 @@ pub fn examples()
     ensures messages { (id : PeerId) (key : KeyId) → peer_id 5 ≡ Some id → key_id 2 ≡ Some key →
         MessageExamples id key }
     ensures new { (id other : PeerId) → (id.number == other.number) ≡ false → NewExamples id other }
+    ensures set { (id other : PeerId) (k : Key) → (id.number == other.number) ≡ false →
+        SetExamples id other k }
+    ensures slots { (id : PeerId) (k l : Key) → SlotExamples id k l }
+    ensures dump { (id other : PeerId) → id.number ≡ 5 → other.number ≡ 6 → DumpExamples id other }
     ensures looks { (id : PeerId) (k l : Key) → (id.number == 16777215) ≡ false →
         (k.key_id.number == l.key_id.number) ≡ false → LookExamples id k l }
+    ensures via { ViaExamples }
+    ensures route { (id : PeerId) (k : Key) → RouteExample id k }
 {}

@@ -1,7 +1,9 @@
 //! The lines of a script.
 
+use crate::command::Reason;
+use crate::ident::PeerId;
 use crate::netlink::NlMessage;
-use ov_base::{Boxed, ListOf, Octets, Transport};
+use ov_base::{Addr, Boxed, ListOf, Octets, Transport};
 
 /// What a line asks for.
 #[derive(Debug, Drop, PartialEq, Eq)]
@@ -12,6 +14,8 @@ pub enum Deed {
     Tx(Octets),
     /// A datagram comes from a transport, at most 65,507 bytes.
     Rx { from: Transport, datagram: Octets },
+    /// The transport of a peer is lost: it is removed with this reason.
+    Lost { id: PeerId, reason: Reason },
 }
 
 /// One line of a script.
@@ -24,8 +28,19 @@ pub struct Line {
     pub deed: Deed,
 }
 
-/// A script: its lines in order, of all lanes.
+/// A route: where packets go whose address has the first `length` bits of `prefix`.
+#[derive(Clone, Copy, Debug, PartialEq, Eq)]
+pub struct Route {
+    pub prefix: Addr,
+    /// How many bits of the prefix count: at most 32 of an IPv4 address, 128 of an IPv6 address.
+    pub length: u32,
+    /// The next hop, an address inside the tunnel. It isn't looked up again.
+    pub hop: Addr,
+}
+
+/// A script: its lines in order, of all lanes, and the routes that hold for all of them.
 #[derive(Debug, Drop, PartialEq, Eq)]
 pub struct Script {
     pub lines: ListOf<Line>,
+    pub routes: ListOf<Route>,
 }

@@ -8,9 +8,14 @@ use std::fmt;
 #[derive(Clone, Copy, Debug, PartialEq, Eq)]
 pub enum NlOp {
     PeerNew,
+    PeerSet,
     PeerGet,
+    PeerDump,
     PeerDel,
     KeyNew,
+    KeyGet,
+    KeySwap,
+    KeyDel,
 }
 
 /// The ciphers of the family.

@@ -1,13 +1,14 @@
 //! What the steps of the peer table answer.
 
-use crate::command::Keepalive;
+use crate::command::{Keepalive, Slot};
 use crate::ident::{KeyId, PeerId};
+use crate::netlink::Cipher;
 use ov_base::{Boxed, ListOf, Transport};
 
 /// Why a command was refused, by the names of Linux's error numbers.
 #[derive(Clone, Copy, Debug, PartialEq, Eq)]
 pub enum Errno {
-    /// ENOENT, 2: no live peer has the id.
+    /// ENOENT, 2: no live peer has the id, or its slot is empty.
     NoEntry,
     /// EEXIST, 17: an id or an address is taken by another live peer.
     Exists,
@@ -31,6 +32,15 @@ pub struct Counts {
     pub link_rx_packets: u64,
     pub link_tx_bytes: u64,
     pub link_tx_packets: u64,
+}
+
+/// What key-get shows of a key: where it stands and what it is called, and no byte of it.
+#[derive(Clone, Copy, Debug, PartialEq, Eq)]
+pub struct KeyView {
+    pub peer: PeerId,
+    pub slot: Slot,
+    pub key_id: KeyId,
+    pub cipher: Cipher,
 }
 
 /// What peer-get shows of a peer.
@@ -77,6 +87,9 @@ pub enum Reply {
     Done,
     /// What a peer is, behind a pointer, since it is many times as big as the other replies.
     Peer(Boxed<PeerView>),
+    /// What all live peers are, by rising id.
+    Peers(ListOf<PeerView>),
+    Key(KeyView),
     /// The serials of the removed peers.
     Removed(ListOf<u32>),
     Hold(HoldView),

@@ -1,5 +1,5 @@
 -- Each is computed.
-use Rattle.ov_model.proofs.Examples.{window_examples, datagram_examples, inner_examples, id_examples, message_examples, new_examples, look_examples}
+use Rattle.ov_model.proofs.Examples.{window_examples, datagram_examples, inner_examples, id_examples, message_examples, new_examples, set_examples, slot_examples, dump_examples, look_examples, via_examples, route_example}
 use Rattle.ov_model.proofs.laws.examples.Goals as goal
 
 pub returns-clause-window : goal.returns-clause-window
@@ -20,5 +20,20 @@ returns-clause-messages c = message_examples
 pub returns-clause-new : goal.returns-clause-new
 returns-clause-new c = new_examples
 
+pub returns-clause-set : goal.returns-clause-set
+returns-clause-set c = set_examples
+
+pub returns-clause-slots : goal.returns-clause-slots
+returns-clause-slots c = slot_examples
+
+pub returns-clause-dump : goal.returns-clause-dump
+returns-clause-dump c = dump_examples
+
 pub returns-clause-looks : goal.returns-clause-looks
 returns-clause-looks c = look_examples
+
+pub returns-clause-via : goal.returns-clause-via
+returns-clause-via c = via_examples
+
+pub returns-clause-route : goal.returns-clause-route
+returns-clause-route c = route_example
