@@ -1,5 +1,5 @@
 -- What each call of the desk leaves that makes no step of the table: a draw, a replay step, the give-backs.
-use Rattle.std.proofs.Common.{ℕ, zero, suc, ◌≡◌, ◌+◌, ◌-◌, ◌%◌, ◌≤◌, ◌<◌, inl, inr, List, [], ◌∷◌, ◌++◌, length, length-append, get_or, refl, sym, ◌∙◌, ap, subst, arith, Bool, true, false, ◌==◌, ◌||◌, if◌then◌else◌}
+use Rattle.std.proofs.Common.{ℕ, zero, suc, ◌≡◌, ◌+◌, ◌%◌, ◌≤◌, ◌<◌, inl, inr, List, [], ◌∷◌, ◌++◌, length, get_or, refl, sym, ◌∙◌, ap, subst, arith, Bool, true, false, ◌==◌, ◌||◌, if◌then◌else◌}
 use Rattle.std.specs.Prelude.{map, not, Some, slice_get, slice_set, slice_index_or}
 use Rattle.std.proofs.lemmas.Bool.{ne_eqb}
 use Rattle.ov_model.specs.declared.place.Place.{Place}
@@ -8,74 +8,39 @@ use Rattle.ov_model.specs.declared.hold.Given.{Given}
 use Rattle.ov_model.specs.declared.hold.Owed.{Owed}
 use Rattle.ov_model.specs.declared.hold.Owed.TheVariants as owed
 use Rattle.ov_model.specs.declared.replay.ReplayEntry.{ReplayEntry}
-use Rattle.ov_model.specs.declared.replay.Verdict.{Verdict}
-use Rattle.ov_model.specs.declared.replay.Verdict.TheVariants as verdict
-use Rattle.ov_model.specs.declared.reply.HoldView.{HoldView}
-use Rattle.ov_model.specs.declared.stand.Stand.{Stand}
-use Rattle.ov_model.specs.declared.stand.Stand.TheVariants as stand
-use Rattle.ov_model.specs.Events.{Step, Judged, Drew, GaveKey, GavePeer, Judgement}
-use Rattle.ov_model.specs.Next.{see, stand_of, judged_as}
+use Rattle.ov_model.specs.Events.{Judged, Drew, Judgement}
+use Rattle.ov_model.specs.Next.{stand_of}
 use Rattle.ov_model.specs.Replay.{judged}
 use Rattle.ov_model.specs.Step.{is_there, is_retired}
 use Rattle.ov_model.specs.Lanes.{judged_in}
-use Rattle.ov_path.specs.Desks.{Holding, NoHold, Both, PeerLeft, HoldsKey, LeftPeer, IsLooked, peer_left, owed_if}
+use Rattle.ov_path.specs.Desks.{Holding, NoHold, Both, PeerLeft, HoldsKey, IsLooked, HopsStay, hold_left, owed_left, owed_if}
 use Rattle.ov_replay.specs.History.{History}
-use Rattle.ov_core.specs.declared.mark.Mark.{Mark}
-use Rattle.ov_core.specs.declared.mark.Mark.TheVariants as mark
-use Rattle.ov_core.specs.Worlds.{World, Seat, after_draw, after_replay, after_key, after_peer, next_of, next_after, drawn_of, holds_key, holds_peer, key_holds, peer_holds, given_where, without_key, without_hold, key_given, peer_given}
+use Rattle.ov_core.specs.Worlds.{World, Seat, Makes, after_draw, after_replay, after_key, after_peer, next_of, next_after, drawn_of, holds_key, holds_peer, key_holds, peer_holds, given_where, without_key, without_hold, key_given, peer_given}
 use Rattle.ov_core.specs.Sounds.{WorldSound}
-use Rattle.ov_core.specs.Seats.{Sitting, Seated, events_of, seen, world_of, steps_at, seat_of, shown_of, histories, is_held, has_key, has_peer, owing_if, owing_list, empty_seat, debt, may_owe, Roomy, Kept, last_if, given_by, after_drawn, after_judged, after_gave_key, after_gave_peer}
-use Rattle.ov_core.proofs.Seats.{length-slice_set, set_case}
-use Rattle.ov_core.proofs.Marks.{set_own, read_own, map_set, set_set}
-use Rattle.ov_core.proofs.Leaving.{EventDone, below, seen_at, own_room, pushed, room_push, seats_set, quiet_done, one_owed, owing_if_is}
+use Rattle.ov_core.specs.Pasts.{gave}
+use Rattle.ov_core.specs.Seats.{Sitting, Seated, seen, world_of, seat_of, shown_of, histories, itself, is_held, has_key, has_peer, owing_if, owing_list, empty_seat, may_owe, Kept, last_if, given_by, GivesBack, hold_without, given_back, after_drawn, after_judged, after_gave}
+use Rattle.ov_core.proofs.Seats.{length-slice_set, set_case, set_own, read_own, map_set, set_set}
+use Rattle.ov_core.proofs.Leaving.{EventDone, below, seen_at, own_spare, quiet_done, one_owed, owing_if_is}
 use Rattle.ov_core.proofs.Keeping.{keeps_draw, draws_below, keeps_replay, keeps_key, keeps_peer}
 
 -- ---- a draw
 
-draw_debt : (h : Holding) (s : Stand) (key : ℕ) (r : Drawn) → HoldsKey h key → IsLooked s → debt h (see s (Drew key r)) + 1 ≤ debt h s
-draw_debt (Both h) (stand.Looked v) key r names was = omega arith
-draw_debt (Both h) _ key r names was = absurd was
-draw_debt NoHold s key r names was = absurd names
-draw_debt (PeerLeft h) s key r names was = absurd names
-
 pub draw_done : (d : Seated) (key : ℕ) → Kept d → HoldsKey (shown_of d).hold key → IsLooked (stand_of (shown_of d).events) → EventDone d (Drew key (drawn_of (get_or d.next key d.first))) (after_drawn d key)
 draw_done d key kept held looked =
     let r : Drawn = drawn_of (get_or d.next key d.first) in
-    let was : Sitting = seat_of d in
-    let ss : List Step = steps_at d in
-    let m : Mark = mark.Drew key r in
-    let s : Sitting = record was { marks = was.marks ++ m ∷ []; room = was.room - 1 } in
+    let s : Sitting = record (seat_of d) { events = (seat_of d).events ++ Drew key r ∷ [] } in
     let w : World = world_of d in
-    let seat : Seat = seen ss was in
+    let seat : Seat = seen (seat_of d) in
     let at : slice_get w.seats d.turn ≡ Some seat = seen_at d kept in
-    let roomy : Roomy ss was = own_room d kept in
-    let events : events_of ss s.marks ≡ events_of ss was.marks ++ Drew key r ∷ [] = pushed ss was.marks m (Drew key r) refl in
-    let seats_are : map (seen ss) (slice_set d.seats d.turn s) ≡ slice_set w.seats d.turn (record seat { events = seat.events ++ Drew key r ∷ [] }) =
-    seats_set d s ss kept (λ t x. refl) ∙ ap (λ es. slice_set w.seats d.turn (record seat { events = es })) events in
     let is : world_of (after_drawn d key) ≡ after_draw w d.turn seat key =
-    ap (λ (x : List Seat). record w { next = slice_set d.next key (next_after (next_of w key)); seats = x }) seats_are in
-    let less : debt was.hold (see (stand_of (events_of ss was.marks)) (Drew key r)) + 1 ≤ debt was.hold (stand_of (events_of ss was.marks)) = draw_debt was.hold (stand_of (events_of ss was.marks)) key r held looked in
-    let fits : debt was.hold (stand_of (events_of ss was.marks)) + length was.owing ≤ was.room = roomy.debt_fits in
+    ap (λ (x : List Seat). record w { next = slice_set d.next key (next_after (next_of w key)); seats = x }) (map_set seen d.seats d.turn s) in
     quiet_done d (after_drawn d key) (Drew key r) s kept refl refl refl kept.numbers
-    (record { events = events; hold = refl; owing = refl; room = room_push ss was s m (Drew key r) roomy refl refl tt refl roomy.spare_fits (omega arith) })
+    (record { events = refl; hold = refl; owing = refl; spare = own_spare d kept })
     refl
     (draws_below w d.turn seat key kept.sound at held, is)
     (subst WorldSound (sym is) (keeps_draw w d.turn seat key kept.sound at held looked))
 
 -- ---- a replay step
-
-judged_stands : (h v : HoldView) (x : Verdict) → debt (Both h) (judged_as v x) ≤ 5
-judged_stands h v verdict.Accept = omega arith
-judged_stands h v verdict.Zero = omega arith
-judged_stands h v verdict.Old = omega arith
-judged_stands h v verdict.Below = omega arith
-judged_stands h v verdict.Again = omega arith
-
-judge_debt : (h : Holding) (s : Stand) (key : ℕ) (j : Judgement) → HoldsKey h key → IsLooked s → debt h (see s (Judged j)) + 1 ≤ debt h s
-judge_debt (Both h) (stand.Looked v) key j names was = let most = judged_stands h v j.verdict in omega arith
-judge_debt (Both h) _ key j names was = absurd was
-judge_debt NoHold s key j names was = absurd names
-judge_debt (PeerLeft h) s key j names was = absurd names
 
 -- The replay step of a shard, as the line sees it.
 abbrev pub judgement_at : History → Place → (key id at : ℕ) → Judgement
@@ -95,32 +60,23 @@ pub replay_done : (d : Seated) (shard : History) (place : Place) (key id moment 
 unfolding judged
 replay_done d shard place key id moment kept held looked shard_is =
     let j : Judgement = judgement_at shard place key id moment in
-    let was : Sitting = seat_of d in
-    let ss : List Step = steps_at d in
-    let m : Mark = mark.Judged (record { place = place; key = key; id = id; at = moment; verdict = j.verdict }) in
-    let s : Sitting = record was { marks = was.marks ++ m ∷ []; room = was.room - 1 } in
+    let s : Sitting = record (seat_of d) { events = (seat_of d).events ++ Judged j ∷ [] } in
     let w : World = world_of d in
-    let seat : Seat = seen ss was in
+    let seat : Seat = seen (seat_of d) in
     let at : slice_get w.seats d.turn ≡ Some seat = seen_at d kept in
-    let roomy : Roomy ss was = own_room d kept in
     let entry : ReplayEntry = judged shard.entries place key id moment in
-    let events : events_of ss s.marks ≡ events_of ss was.marks ++ Judged j ∷ [] = pushed ss was.marks m (Judged j) refl in
-    let seats_are : map (seen ss) (slice_set d.seats d.turn s) ≡ slice_set w.seats d.turn (record seat { events = seat.events ++ Judged j ∷ [] }) =
-    seats_set d s ss kept (λ t x. refl) ∙ ap (λ es. slice_set w.seats d.turn (record seat { events = es })) events in
     let shards_are : histories (slice_set d.shards (key % 8) (record shard { entries = shard.entries ++ entry ∷ [] })) ≡ judged_in w.shards (key % 8) entry = histories_in d.shards (key % 8) shard entry shard_is in
     let has_entries : get_or w.shards (key % 8) [] ≡ shard.entries = histories_at d.shards (key % 8) shard shard_is in
     let is : world_of (after_judged d shard place key id moment) ≡ after_replay w d.turn seat place key id moment =
     rw (has_entries)
-    (ap (λ (x : List Seat). record w { shards = histories (slice_set d.shards (key % 8) (record shard { entries = shard.entries ++ entry ∷ [] })); seats = x }) seats_are
+    (ap (λ (x : List Seat). record w { shards = histories (slice_set d.shards (key % 8) (record shard { entries = shard.entries ++ entry ∷ [] })); seats = x }) (map_set seen d.seats d.turn s)
     ∙ ap (λ (x : List (List ReplayEntry)). record w { shards = x; seats = slice_set w.seats d.turn (record seat { events = seat.events ++ Judged j ∷ [] }) }) shards_are) in
-    let less : debt was.hold (see (stand_of (events_of ss was.marks)) (Judged j)) + 1 ≤ debt was.hold (stand_of (events_of ss was.marks)) = judge_debt was.hold (stand_of (events_of ss was.marks)) key j held looked in
-    let fits : debt was.hold (stand_of (events_of ss was.marks)) + length was.owing ≤ was.room = roomy.debt_fits in
     quiet_done d (after_judged d shard place key id moment) (Judged j) s kept refl refl refl
     (λ k h at_k. elim (set_case d.shards (key % 8) k (record shard { entries = shard.entries ++ entry ∷ [] }) h at_k) [
       | inl here ↦ rw (here.1, here.0) (kept.numbers (key % 8) shard shard_is)
       | inr there ↦ kept.numbers k h there.1
     ])
-    (record { events = events; hold = refl; owing = refl; room = room_push ss was s m (Judged j) roomy refl refl tt refl roomy.spare_fits (omega arith) })
+    (record { events = refl; hold = refl; owing = refl; spare = own_spare d kept })
     refl is
     (subst WorldSound (sym is) (keeps_replay w d.turn seat place key id moment kept.sound at looked))
 
@@ -141,13 +97,13 @@ peer_bit (Both h) p = refl
 peer_bit (PeerLeft h) p = refl
 
 -- Nobody holds a key where none of the seats has it.
-pub key_none : (ss : List Step) (k : ℕ) (seats : List Sitting) → (key_holds k (map (seen ss) seats) == 0) ≡ not (is_held seats (owed.Key k))
-key_none ss k [] = refl
-key_none ss k (x ∷ xs) = rw (key_bit x.hold k) (none_bit (has_key k x.hold) (is_held xs (owed.Key k)) (key_holds k (map (seen ss) xs)) (key_none ss k xs))
+pub key_none : (k : ℕ) (seats : List Sitting) → (key_holds k (map seen seats) == 0) ≡ not (is_held seats (owed.Key k))
+key_none k [] = refl
+key_none k (x ∷ xs) = rw (key_bit x.hold k) (none_bit (has_key k x.hold) (is_held xs (owed.Key k)) (key_holds k (map seen xs)) (key_none k xs))
 
-pub peer_none : (ss : List Step) (p : ℕ) (seats : List Sitting) → (peer_holds p (map (seen ss) seats) == 0) ≡ not (is_held seats (owed.Peer p))
-peer_none ss p [] = refl
-peer_none ss p (x ∷ xs) = rw (peer_bit x.hold p) (none_bit (has_peer p x.hold) (is_held xs (owed.Peer p)) (peer_holds p (map (seen ss) xs)) (peer_none ss p xs))
+pub peer_none : (p : ℕ) (seats : List Sitting) → (peer_holds p (map seen seats) == 0) ≡ not (is_held seats (owed.Peer p))
+peer_none p [] = refl
+peer_none p (x ∷ xs) = rw (peer_bit x.hold p) (none_bit (has_peer p x.hold) (is_held xs (owed.Peer p)) (peer_holds p (map seen xs)) (peer_none p xs))
 
 given_same : (b c : Bool) (n : ℕ) → (n == 0) ≡ not c → last_if b c ≡ given_where b n
 given_same false true n is = refl
@@ -157,121 +113,74 @@ given_same true false n is = rw is refl
 
 -- ---- the give-backs
 
-both_debt : (h : HoldView) (s : Stand) → 4 ≤ debt (Both h) s
-both_debt h (stand.Looked v) = omega arith
-both_debt h (stand.Drew v r) = omega arith
-both_debt h (stand.Judged v) = omega arith
-both_debt h _ = omega arith
+-- After a give-back there is less to come to be owed.
+owe_less : (h : Holding) (o : Owed) → GivesBack h o → may_owe (hold_without o h) + 1 ≤ may_owe h
+owe_less (Both h) (owed.Key k) names = omega arith
+owe_less NoHold (owed.Key k) names = absurd names
+owe_less (PeerLeft h) (owed.Key k) names = absurd names
+owe_less (PeerLeft h) (owed.Peer p) names = omega arith
+owe_less (Both h) (owed.Peer p) names = absurd names
+owe_less NoHold (owed.Peer p) names = absurd names
 
--- A give-back of the key leaves less to come.
-record Less (h left : Holding) (s : Stand) : Type 0 where
-  debt_less : (t : Stand) → debt left t + 2 ≤ debt h s
-  owe_less : may_owe left + 1 ≤ may_owe h
+-- The seat of the lane without what it gives back.
+abbrev pub left_of : Seated → Owed → Sitting
+left_of d o = record (seat_of d) { hold = hold_without o (seat_of d).hold }
 
-key_less : (h : Holding) (s : Stand) (key : ℕ) → HoldsKey h key → Less h (peer_left h) s
-key_less (Both h) s key names = record { debt_less = λ t. let least = both_debt h s in omega arith; owe_less = omega arith }
-key_less NoHold s key names = absurd names
-key_less (PeerLeft h) s key names = absurd names
+-- Its seat after the give-back.
+abbrev gave_seat : Seated → Owed → Given → Sitting
+gave_seat d o g = owing_list (record (left_of d o) { events = (seat_of d).events ++ gave o g ∷ [] }) (owed_if g o)
 
-peer_less : (h : Holding) (s : Stand) (peer : ℕ) → LeftPeer h peer → Less h NoHold s
-peer_less (PeerLeft h) s peer names = record { debt_less = λ t. omega arith; owe_less = omega arith }
-peer_less (Both h) s peer names = absurd names
-peer_less NoHold s peer names = absurd names
+gave_hold : (h : Holding) (o : Owed) (g : Given) → hold_without o h ≡ hold_left h (gave o g)
+gave_hold h (owed.Key k) g = refl
+gave_hold h (owed.Peer p) g = refl
 
-pub gave_key_done : (d : Seated) (key : ℕ) → Kept d → HoldsKey (shown_of d).hold key → EventDone d (GaveKey key (given_by d.table.now (slice_set d.seats d.turn (record (seat_of d) { hold = peer_left (seat_of d).hold })) (owed.Key key))) (after_gave_key d key)
-gave_key_done d key kept held =
-    let was : Sitting = seat_of d in
-    let ss : List Step = steps_at d in
-    let left : Sitting = record was { hold = peer_left was.hold } in
-    let g : Given = given_by d.table.now (slice_set d.seats d.turn left) (owed.Key key) in
-    let os : List Owed = owed_if g (owed.Key key) in
-    let m : Mark = mark.GaveKey key g in
-    let s : Sitting = record { marks = was.marks ++ m ∷ []; room = was.room - 1; hold = peer_left was.hold; owing = was.owing ++ os; spare = was.spare - length os } in
+gave_owing : (os : List Owed) (o : Owed) (g : Given) → os ++ owed_if g o ≡ owed_left os (gave o g)
+gave_owing os (owed.Key k) g = refl
+gave_owing os (owed.Peer p) g = refl
+
+-- What a give-back makes of the world, and that it keeps it sound.
+record Gives (d : Seated) (o : Owed) : Type 0 where
+  makes : Makes (world_of d) d.turn (seen (seat_of d)) (gave o (given_back d o)) (world_of (after_gave d o))
+  sound : WorldSound (world_of (after_gave d o))
+  hops : HopsStay (gave o (given_back d o)) itself itself
+
+gives : (d : Seated) (o : Owed) → Kept d → GivesBack (shown_of d).hold o → Gives d o
+gives d (owed.Key key) kept held =
+    let o : Owed = owed.Key key in
     let w : World = world_of d in
-    let seat : Seat = seen ss was in
-    let at : slice_get w.seats d.turn ≡ Some seat = seen_at d kept in
-    let roomy : Roomy ss was = own_room d kept in
-    let nobody : (key_holds key (without_key w.seats d.turn seat) == 0) ≡ not (is_held (slice_set d.seats d.turn left) (owed.Key key)) =
-    subst (λ (x : List Seat). (key_holds key x == 0) ≡ not (is_held (slice_set d.seats d.turn left) (owed.Key key))) (map_set (seen ss) d.seats d.turn left) (key_none ss key (slice_set d.seats d.turn left)) in
-    let g_is : g ≡ key_given w d.turn seat key = given_same (is_retired key d.table.now.retired) (is_held (slice_set d.seats d.turn left) (owed.Key key)) (key_holds key (without_key w.seats d.turn seat)) nobody in
-    let events : events_of ss s.marks ≡ events_of ss was.marks ++ GaveKey key g ∷ [] = pushed ss was.marks m (GaveKey key g) refl in
-    let seats_are : map (seen ss) (slice_set d.seats d.turn s) ≡ slice_set w.seats d.turn (record { events = seat.events ++ GaveKey key g ∷ []; hold = peer_left was.hold; owing = was.owing ++ os }) =
-    seats_set d s ss kept (λ t x. refl) ∙ ap (λ es. slice_set w.seats d.turn (record { events = es; hold = peer_left was.hold; owing = was.owing ++ os })) events in
-    let is : world_of (after_gave_key d key) ≡ after_key w d.turn seat key =
-    ap (λ (x : List Seat). record w { seats = x }) (seats_are ∙ ap (λ x. slice_set w.seats d.turn (record { events = seat.events ++ GaveKey key x ∷ []; hold = peer_left was.hold; owing = was.owing ++ owed_if x (owed.Key key) })) g_is) in
-    let less : Less was.hold (peer_left was.hold) (stand_of (events_of ss was.marks)) = key_less was.hold (stand_of (events_of ss was.marks)) key held in
-    let lower : debt (peer_left was.hold) (see (stand_of (events_of ss was.marks)) (GaveKey key g)) + 2 ≤ debt was.hold (stand_of (events_of ss was.marks)) = less.debt_less (see (stand_of (events_of ss was.marks)) (GaveKey key g)) in
-    let owe_lower : may_owe (peer_left was.hold) + 1 ≤ may_owe was.hold = less.owe_less in
-    let fits : debt was.hold (stand_of (events_of ss was.marks)) + length was.owing ≤ was.room = roomy.debt_fits in
-    let spare : may_owe was.hold ≤ was.spare = roomy.spare_fits in
-    let one : length os ≤ 1 = one_owed g (owed.Key key) in
-    let long : length (was.owing ++ os) ≡ length was.owing + length os = length-append was.owing os in
-    quiet_done d (after_gave_key d key) (GaveKey key g) s kept refl refl refl kept.numbers
-    (record { events = events; hold = refl; owing = refl; room = room_push ss was s m (GaveKey key g) roomy refl refl tt refl (omega arith) (omega arith) })
-    refl is
-    (subst WorldSound (sym is) (keeps_key w d.turn seat key kept.sound at held))
-
-pub gave_peer_done : (d : Seated) (peer : ℕ) → Kept d → LeftPeer (shown_of d).hold peer → EventDone d (GavePeer peer (given_by d.table.now (slice_set d.seats d.turn (record (seat_of d) { hold = NoHold })) (owed.Peer peer))) (after_gave_peer d peer)
-gave_peer_done d peer kept held =
-    let was : Sitting = seat_of d in
-    let ss : List Step = steps_at d in
-    let left : Sitting = record was { hold = NoHold } in
-    let g : Given = given_by d.table.now (slice_set d.seats d.turn left) (owed.Peer peer) in
-    let os : List Owed = owed_if g (owed.Peer peer) in
-    let m : Mark = mark.GavePeer peer g in
-    let s : Sitting = record { marks = was.marks ++ m ∷ []; room = was.room - 1; hold = NoHold; owing = was.owing ++ os; spare = was.spare - length os } in
+    let seat : Seat = seen (seat_of d) in
+    let left : List Sitting = slice_set d.seats d.turn (left_of d o) in
+    let nobody : (key_holds key (without_key w.seats d.turn seat) == 0) ≡ not (is_held left o) = subst (λ (x : List Seat). (key_holds key x == 0) ≡ not (is_held left o)) (map_set seen d.seats d.turn (left_of d o)) (key_none key left) in
+    let g_is : given_back d o ≡ key_given w d.turn seat key = given_same (is_retired key d.table.now.retired) (is_held left o) (key_holds key (without_key w.seats d.turn seat)) nobody in
+    let is : world_of (after_gave d o) ≡ after_key w d.turn seat key =
+    ap (λ (x : List Seat). record w { seats = x }) (map_set seen d.seats d.turn (gave_seat d o (given_back d o))) ∙ ap (λ g. record w { seats = slice_set w.seats d.turn (seen (gave_seat d o g)) }) g_is in
+    record { makes = is; sound = subst WorldSound (sym is) (keeps_key w d.turn seat key kept.sound (seen_at d kept) held); hops = refl }
+gives d (owed.Peer peer) kept held =
+    let o : Owed = owed.Peer peer in
     let w : World = world_of d in
-    let seat : Seat = seen ss was in
-    let at : slice_get w.seats d.turn ≡ Some seat = seen_at d kept in
-    let roomy : Roomy ss was = own_room d kept in
-    let nobody : (peer_holds peer (without_hold w.seats d.turn seat) == 0) ≡ not (is_held (slice_set d.seats d.turn left) (owed.Peer peer)) =
-    subst (λ (x : List Seat). (peer_holds peer x == 0) ≡ not (is_held (slice_set d.seats d.turn left) (owed.Peer peer))) (map_set (seen ss) d.seats d.turn left) (peer_none ss peer (slice_set d.seats d.turn left)) in
-    let g_is : g ≡ peer_given w d.turn seat peer = given_same (is_there peer d.table.now.dying) (is_held (slice_set d.seats d.turn left) (owed.Peer peer)) (peer_holds peer (without_hold w.seats d.turn seat)) nobody in
-    let events : events_of ss s.marks ≡ events_of ss was.marks ++ GavePeer peer g ∷ [] = pushed ss was.marks m (GavePeer peer g) refl in
-    let seats_are : map (seen ss) (slice_set d.seats d.turn s) ≡ slice_set w.seats d.turn (record { events = seat.events ++ GavePeer peer g ∷ []; hold = NoHold; owing = was.owing ++ os }) =
-    seats_set d s ss kept (λ t x. refl) ∙ ap (λ es. slice_set w.seats d.turn (record { events = es; hold = NoHold; owing = was.owing ++ os })) events in
-    let is : world_of (after_gave_peer d peer) ≡ after_peer w d.turn seat peer =
-    ap (λ (x : List Seat). record w { seats = x }) (seats_are ∙ ap (λ x. slice_set w.seats d.turn (record { events = seat.events ++ GavePeer peer x ∷ []; hold = NoHold; owing = was.owing ++ owed_if x (owed.Peer peer) })) g_is) in
-    let less : Less was.hold NoHold (stand_of (events_of ss was.marks)) = peer_less was.hold (stand_of (events_of ss was.marks)) peer held in
-    let lower : debt NoHold (see (stand_of (events_of ss was.marks)) (GavePeer peer g)) + 2 ≤ debt was.hold (stand_of (events_of ss was.marks)) = less.debt_less (see (stand_of (events_of ss was.marks)) (GavePeer peer g)) in
-    let owe_lower : may_owe NoHold + 1 ≤ may_owe was.hold = less.owe_less in
-    let fits : debt was.hold (stand_of (events_of ss was.marks)) + length was.owing ≤ was.room = roomy.debt_fits in
-    let spare : may_owe was.hold ≤ was.spare = roomy.spare_fits in
-    let one : length os ≤ 1 = one_owed g (owed.Peer peer) in
-    let long : length (was.owing ++ os) ≡ length was.owing + length os = length-append was.owing os in
-    quiet_done d (after_gave_peer d peer) (GavePeer peer g) s kept refl refl refl kept.numbers
-    (record { events = events; hold = refl; owing = refl; room = room_push ss was s m (GavePeer peer g) roomy refl refl tt refl (omega arith) (omega arith) })
-    refl is
-    (subst WorldSound (sym is) (keeps_peer w d.turn seat peer kept.sound at held))
+    let seat : Seat = seen (seat_of d) in
+    let left : List Sitting = slice_set d.seats d.turn (left_of d o) in
+    let nobody : (peer_holds peer (without_hold w.seats d.turn seat) == 0) ≡ not (is_held left o) = subst (λ (x : List Seat). (peer_holds peer x == 0) ≡ not (is_held left o)) (map_set seen d.seats d.turn (left_of d o)) (peer_none peer left) in
+    let g_is : given_back d o ≡ peer_given w d.turn seat peer = given_same (is_there peer d.table.now.dying) (is_held left o) (peer_holds peer (without_hold w.seats d.turn seat)) nobody in
+    let is : world_of (after_gave d o) ≡ after_peer w d.turn seat peer =
+    ap (λ (x : List Seat). record w { seats = x }) (map_set seen d.seats d.turn (gave_seat d o (given_back d o))) ∙ ap (λ g. record w { seats = slice_set w.seats d.turn (seen (gave_seat d o g)) }) g_is in
+    record { makes = is; sound = subst WorldSound (sym is) (keeps_peer w d.turn seat peer kept.sound (seen_at d kept) held); hops = refl }
 
--- ---- the room is there
-
-pub held_room : (d : Seated) (key : ℕ) → Kept d → HoldsKey (shown_of d).hold key → (0 < (seat_of d).room) × (0 < (seat_of d).spare)
-held_room d key kept held =
-    let was : Sitting = seat_of d in
-    let roomy : Roomy (steps_at d) was = own_room d kept in
-    let less : Less was.hold (peer_left was.hold) (stand_of (events_of (steps_at d) was.marks)) = key_less was.hold (stand_of (events_of (steps_at d) was.marks)) key held in
-    let lower : debt (peer_left was.hold) stand.Fresh + 2 ≤ debt was.hold (stand_of (events_of (steps_at d) was.marks)) = less.debt_less stand.Fresh in
-    let owe_lower : may_owe (peer_left was.hold) + 1 ≤ may_owe was.hold = less.owe_less in
-    let fits : debt was.hold (stand_of (events_of (steps_at d) was.marks)) + length was.owing ≤ was.room = roomy.debt_fits in
-    let spare : may_owe was.hold ≤ was.spare = roomy.spare_fits in
-    (omega arith, omega arith)
-
-pub left_room : (d : Seated) (peer : ℕ) → Kept d → LeftPeer (shown_of d).hold peer → (0 < (seat_of d).room) × (0 < (seat_of d).spare)
-left_room d peer kept held =
-    let was : Sitting = seat_of d in
-    let roomy : Roomy (steps_at d) was = own_room d kept in
-    let less : Less was.hold NoHold (stand_of (events_of (steps_at d) was.marks)) = peer_less was.hold (stand_of (events_of (steps_at d) was.marks)) peer held in
-    let lower : debt NoHold stand.Fresh + 2 ≤ debt was.hold (stand_of (events_of (steps_at d) was.marks)) = less.debt_less stand.Fresh in
-    let owe_lower : may_owe NoHold + 1 ≤ may_owe was.hold = less.owe_less in
-    let fits : debt was.hold (stand_of (events_of (steps_at d) was.marks)) + length was.owing ≤ was.room = roomy.debt_fits in
-    let spare : may_owe was.hold ≤ was.spare = roomy.spare_fits in
-    (omega arith, omega arith)
+pub gave_done : (d : Seated) (o : Owed) → Kept d → GivesBack (shown_of d).hold o → EventDone d (gave o (given_back d o)) (after_gave d o)
+gave_done d o kept held =
+    let g : Given = given_back d o in
+    let its : Gives d o = gives d o kept held in
+    let less : may_owe (hold_without o (seat_of d).hold) + 1 ≤ may_owe (seat_of d).hold = owe_less (seat_of d).hold o held in
+    let spare : may_owe (seat_of d).hold ≤ (seat_of d).spare = own_spare d kept in
+    let one : length (owed_if g o) ≤ 1 = one_owed g o in
+    quiet_done d (after_gave d o) (gave o g) (gave_seat d o g) kept refl refl refl kept.numbers
+    (record { events = refl; hold = gave_hold (seat_of d).hold o g; owing = gave_owing (seat_of d).owing o g; spare = omega arith })
+    its.hops its.makes its.sound
 
 -- ---- at the calls
 
 pub draw_index : {d d0 : Seated} (key : ℕ) → d ≡ d0 → Kept d → HoldsKey (shown_of d0).hold key → key < length d.next
-draw_index {d} key same kept held = draws_below (world_of d) d.turn (seen (steps_at d) (seat_of d)) key kept.sound (seen_at d kept) (subst (λ (x : Seated). HoldsKey (shown_of x).hold key) (sym same) held)
+draw_index {d} key same kept held = draws_below (world_of d) d.turn (seen (seat_of d)) key kept.sound (seen_at d kept) (subst (λ (x : Seated). HoldsKey (shown_of x).hold key) (sym same) held)
 
 pub draw_read : (d : Seated) (key x : ℕ) → key < length d.next → x ≡ slice_index_or d.next key x → x ≡ get_or d.next key d.first
 draw_read d key x within is = read_own d.next key x d.first within is
@@ -282,44 +191,35 @@ draw_most d key x kept within is = subst (λ n. n ≤ 4294967296) (sym (draw_rea
 pub read_seat : (d : Seated) (x : Sitting) → Kept d → x ≡ slice_index_or d.seats d.turn x → x ≡ seat_of d
 read_seat d x kept is = read_own d.seats d.turn x empty_seat (below d kept) is
 
-pub key_room_at : {d d0 : Seated} (key : ℕ) (x : Sitting) → d ≡ d0 → Kept d → HoldsKey (shown_of d0).hold key → x ≡ slice_index_or d.seats d.turn x → 0 < x.room
-key_room_at {d} key x same kept held is = subst (λ (s : Sitting). 0 < s.room) (sym (read_seat d x kept is)) (held_room d key kept (subst (λ (x : Seated). HoldsKey (shown_of x).hold key) (sym same) held)).0
-
 pub read_left : (d : Seated) (left x : Sitting) → Kept d → x ≡ slice_index_or (slice_set d.seats d.turn left) d.turn x → x ≡ left
 read_left d left x kept is =
     read_own (slice_set d.seats d.turn left) d.turn x empty_seat (let long = length-slice_set d.seats d.turn left in let under = below d kept in omega arith) is
     ∙ set_own d.seats d.turn left empty_seat (below d kept)
 
-pub key_left_room : {d d0 : Seated} (key : ℕ) (x left y : Sitting) → d ≡ d0 → Kept d → HoldsKey (shown_of d0).hold key → x ≡ slice_index_or d.seats d.turn x → left ≡ record x { hold = peer_left x.hold } → y ≡ slice_index_or (slice_set d.seats d.turn left) d.turn y → (0 < y.room) × (0 < y.spare)
-key_left_room {d} key x left y same kept held x_is left_is y_is =
-    subst (λ (s : Sitting). (0 < s.room) × (0 < s.spare)) (sym (read_left d left y kept y_is ∙ left_is))
-    (subst (λ (s : Sitting). (0 < s.room) × (0 < s.spare)) (sym (read_seat d x kept x_is)) (held_room d key kept (subst (λ (z : Seated). HoldsKey (shown_of z).hold key) (sym same) held)))
+-- The seats before the two changes of a give-back and between them, as its calls are given them: x is the seat
+-- of the lane, and y the one without what was given back.
+pub record GaveAt (d : Seated) (o : Owed) (x left y : Sitting) : Type 0 where
+  pub x_is : x ≡ slice_index_or d.seats d.turn x
+  pub left_is : left ≡ record x { hold = hold_without o x.hold }
+  pub y_is : y ≡ slice_index_or (slice_set d.seats d.turn left) d.turn y
 
-pub peer_left_room : {d d0 : Seated} (peer : ℕ) (x left y : Sitting) → d ≡ d0 → Kept d → LeftPeer (shown_of d0).hold peer → x ≡ slice_index_or d.seats d.turn x → left ≡ record x { hold = NoHold } → y ≡ slice_index_or (slice_set d.seats d.turn left) d.turn y → (0 < y.room) × (0 < y.spare)
-peer_left_room {d} peer x left y same kept held x_is left_is y_is =
-    subst (λ (s : Sitting). (0 < s.room) × (0 < s.spare)) (sym (read_left d left y kept y_is ∙ left_is))
-    (subst (λ (s : Sitting). (0 < s.room) × (0 < s.spare)) (sym (read_seat d x kept x_is)) (left_room d peer kept (subst (λ (z : Seated). LeftPeer (shown_of z).hold peer) (sym same) held)))
+left_at : (d : Seated) (o : Owed) (x left y : Sitting) → Kept d → GaveAt d o x left y → (left ≡ left_of d o) × (y ≡ left_of d o)
+left_at d o x left y kept at =
+    let its : left ≡ left_of d o = at.left_is ∙ ap (λ (s : Sitting). record s { hold = hold_without o s.hold }) (read_seat d x kept at.x_is) in
+    (its, read_left d left y kept at.y_is ∙ its)
 
-pub gave_key_is : (d : Seated) (key : ℕ) (x left y new : Sitting) (g : Given) (shown : List Sitting) → Kept d → x ≡ slice_index_or d.seats d.turn x → left ≡ record x { hold = peer_left x.hold } → y ≡ slice_index_or (slice_set d.seats d.turn left) d.turn y
-    → new ≡ owing_if (record y { marks = y.marks ++ mark.GaveKey key g ∷ []; room = y.room - 1 }) g (owed.Key key) → shown ≡ slice_set d.seats d.turn left → g ≡ given_by d.table.now shown (owed.Key key)
-    → (g ≡ given_by d.table.now (slice_set d.seats d.turn (record (seat_of d) { hold = peer_left (seat_of d).hold })) (owed.Key key)) × (slice_set (slice_set d.seats d.turn left) d.turn new ≡ (after_gave_key d key).seats)
-gave_key_is d key x left y new g shown kept x_is left_is y_is new_is shown_is g_is =
-    let own : Sitting = record (seat_of d) { hold = peer_left (seat_of d).hold } in
-    let its : left ≡ own = left_is ∙ ap (λ (s : Sitting). record s { hold = peer_left s.hold }) (read_seat d x kept x_is) in
-    let given : g ≡ given_by d.table.now (slice_set d.seats d.turn own) (owed.Key key) = g_is ∙ ap (λ ss. given_by d.table.now ss (owed.Key key)) (shown_is ∙ ap (λ s. slice_set d.seats d.turn s) its) in
-    let made : new ≡ owing_list (record own { marks = own.marks ++ mark.GaveKey key g ∷ []; room = own.room - 1 }) (owed_if g (owed.Key key)) =
-    new_is ∙ owing_if_is (record y { marks = y.marks ++ mark.GaveKey key g ∷ []; room = y.room - 1 }) g (owed.Key key)
-    ∙ ap (λ (s : Sitting). owing_list (record s { marks = s.marks ++ mark.GaveKey key g ∷ []; room = s.room - 1 }) (owed_if g (owed.Key key))) (read_left d left y kept y_is ∙ its) in
-    (given, set_set d.seats d.turn left new ∙ ap (λ s. slice_set d.seats d.turn s) (made ∙ ap (λ x. owing_list (record own { marks = own.marks ++ mark.GaveKey key x ∷ []; room = own.room - 1 }) (owed_if x (owed.Key key))) given))
+-- There is room for the release.
+pub gave_spare : {d d0 : Seated} (o : Owed) (x left y : Sitting) → d ≡ d0 → Kept d → GivesBack (shown_of d0).hold o → GaveAt d o x left y → 0 < y.spare
+gave_spare {d} o x left y same kept held at =
+    let less : may_owe (hold_without o (seat_of d).hold) + 1 ≤ may_owe (seat_of d).hold = owe_less (seat_of d).hold o (subst (λ (z : Seated). GivesBack (shown_of z).hold o) (sym same) held) in
+    let spare : may_owe (seat_of d).hold ≤ (seat_of d).spare = own_spare d kept in
+    subst (λ (s : Sitting). 0 < s.spare) (sym (left_at d o x left y kept at).1) (omega arith)
 
-pub gave_peer_is : (d : Seated) (peer : ℕ) (x left y new : Sitting) (g : Given) (shown : List Sitting) → Kept d → x ≡ slice_index_or d.seats d.turn x → left ≡ record x { hold = NoHold } → y ≡ slice_index_or (slice_set d.seats d.turn left) d.turn y
-    → new ≡ owing_if (record y { marks = y.marks ++ mark.GavePeer peer g ∷ []; room = y.room - 1 }) g (owed.Peer peer) → shown ≡ slice_set d.seats d.turn left → g ≡ given_by d.table.now shown (owed.Peer peer)
-    → (g ≡ given_by d.table.now (slice_set d.seats d.turn (record (seat_of d) { hold = NoHold })) (owed.Peer peer)) × (slice_set (slice_set d.seats d.turn left) d.turn new ≡ (after_gave_peer d peer).seats)
-gave_peer_is d peer x left y new g shown kept x_is left_is y_is new_is shown_is g_is =
-    let own : Sitting = record (seat_of d) { hold = NoHold } in
-    let its : left ≡ own = left_is ∙ ap (λ (s : Sitting). record s { hold = NoHold }) (read_seat d x kept x_is) in
-    let given : g ≡ given_by d.table.now (slice_set d.seats d.turn own) (owed.Peer peer) = g_is ∙ ap (λ ss. given_by d.table.now ss (owed.Peer peer)) (shown_is ∙ ap (λ s. slice_set d.seats d.turn s) its) in
-    let made : new ≡ owing_list (record own { marks = own.marks ++ mark.GavePeer peer g ∷ []; room = own.room - 1 }) (owed_if g (owed.Peer peer)) =
-    new_is ∙ owing_if_is (record y { marks = y.marks ++ mark.GavePeer peer g ∷ []; room = y.room - 1 }) g (owed.Peer peer)
-    ∙ ap (λ (s : Sitting). owing_list (record s { marks = s.marks ++ mark.GavePeer peer g ∷ []; room = s.room - 1 }) (owed_if g (owed.Peer peer))) (read_left d left y kept y_is ∙ its) in
-    (given, set_set d.seats d.turn left new ∙ ap (λ s. slice_set d.seats d.turn s) (made ∙ ap (λ x. owing_list (record own { marks = own.marks ++ mark.GavePeer peer x ∷ []; room = own.room - 1 }) (owed_if x (owed.Peer peer))) given))
+-- What was answered, and the seats then.
+pub gave_is : (d : Seated) (o : Owed) (x left y new : Sitting) (g : Given) (shown : List Sitting) → Kept d → GaveAt d o x left y → new ≡ owing_if (record y { events = y.events ++ gave o g ∷ [] }) g o → shown ≡ slice_set d.seats d.turn left → g ≡ given_by d.table.now shown o
+    → (g ≡ given_back d o) × (slice_set (slice_set d.seats d.turn left) d.turn new ≡ (after_gave d o).seats)
+gave_is d o x left y new g shown kept at new_is shown_is g_is =
+    let its = left_at d o x left y kept at in
+    let given : g ≡ given_back d o = g_is ∙ ap (λ ss. given_by d.table.now ss o) (shown_is ∙ ap (λ s. slice_set d.seats d.turn s) its.0) in
+    let made : new ≡ gave_seat d o g = new_is ∙ owing_if_is (record y { events = y.events ++ gave o g ∷ [] }) g o ∙ ap (λ (s : Sitting). owing_list (record s { events = s.events ++ gave o g ∷ [] }) (owed_if g o)) its.1 in
+    (given, set_set d.seats d.turn left new ∙ ap (λ s. slice_set d.seats d.turn s) (made ∙ ap (λ z. gave_seat d o z) given))

@@ -11,9 +11,8 @@ use Rattle.ov_path.specs.declared.stage.Stage.TheVariants as stage
 use Rattle.ov_core.specs.Worlds.{World, Seat, no_line, Makes}
 use Rattle.ov_core.specs.Sessions.{Lane, Session, place_of, UnderWay, Goes, Answers, answered}
 use Rattle.ov_core.specs.Ready.{Running}
-use Rattle.ov_core.specs.Seats.{Sitting, Seated, Happened, Kept, seen, steps_at, seat_of, shown_of, world_of, itself, after_line}
-use Rattle.ov_core.proofs.Seats.{same_some}
-use Rattle.ov_core.proofs.Marks.{map_set}
+use Rattle.ov_core.specs.Seats.{Sitting, Seated, Happened, Kept, seen, seat_of, shown_of, world_of, itself, after_line}
+use Rattle.ov_core.proofs.Seats.{same_some, map_set}
 use Rattle.ov_core.proofs.Leaving.{seen_at}
 use Rattle.ov_core.proofs.Taking.{Took}
 use Rattle.ov_core.proofs.Running.{turn_goes, turn_answers, turn_answers_at_once}
@@ -24,7 +23,7 @@ session_of d lanes = record { world = world_of d; lanes = lanes }
 
 -- The seat of the lane that has its turn, as the definitions have it.
 abbrev pub own_seat : Seated → Seat
-own_seat d = seen (steps_at d) (seat_of d)
+own_seat d = seen (seat_of d)
 
 -- The line under way of the lane that has its turn.
 abbrev pub under : (d : Seated) (lanes : List Lane) (lane : Lane) (line : Line) → Kept d → slice_get lanes d.turn ≡ Some lane → slice_get lane.lines (length lane.answers) ≡ Some line → UnderWay (session_of d lanes) d.turn
@@ -58,9 +57,9 @@ turn_more d e lanes stages lane line at now kept kept_e running lane_is line_is 
 -- The world once the line is forgotten, where its seat holds and owes nothing.
 free_world : (e : Seated) → (seat_of e).hold ≡ NoHold → (seat_of e).owing ≡ [] → record (world_of e) { seats = slice_set (world_of e).seats e.turn no_line } ≡ world_of (after_line e)
 free_world e hold owing =
-    let free : Sitting = record (seat_of e) { marks = [] } in
-    let is_free : seen (steps_at e) free ≡ no_line = rw (hold, owing) refl in
-    let seats : map (seen (steps_at e)) (slice_set e.seats e.turn free) ≡ slice_set (world_of e).seats e.turn no_line = map_set (seen (steps_at e)) e.seats e.turn free ∙ ap (slice_set (world_of e).seats e.turn) is_free in
+    let free : Sitting = record (seat_of e) { events = [] } in
+    let is_free : seen free ≡ no_line = rw (hold, owing) refl in
+    let seats : map seen (slice_set e.seats e.turn free) ≡ slice_set (world_of e).seats e.turn no_line = map_set seen e.seats e.turn free ∙ ap (slice_set (world_of e).seats e.turn) is_free in
     ap (λ (xs : List Seat). record (world_of e) { seats = xs }) (sym seats)
 
 -- The lanes with one answer more.

@@ -10,8 +10,7 @@ use Rattle.ov_core.specs.Ready.{Running}
 use Rattle.ov_core.specs.Courses.{Coursed, Standing, OnCourse, Passed, Went, WasAnswered, Turned, lane_of, session_at}
 use Rattle.ov_core.specs.Scripts.{lanes_of, standing_of, script_at, standing_then, AreCourses, LineRan, LinesRan, TookTurns, RanOut}
 use Rattle.ov_core.proofs.Taking.{turns_append, turns_more, in_order_more}
-use Rattle.ov_core.proofs.Seats.{length-slice_set, same_some, set_case}
-use Rattle.ov_core.proofs.Marks.{map_set, map_get}
+use Rattle.ov_core.proofs.Seats.{length-slice_set, same_some, set_case, map_set, map_get}
 
 set_was : {X : Type 0} (xs : List X) (i : ℕ) (x : X) → slice_get xs i ≡ Some x → slice_set xs i x ≡ xs
 set_was [] i x at = refl

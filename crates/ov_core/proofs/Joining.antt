@@ -5,13 +5,11 @@ use Rattle.std.proofs.lemmas.Bool.{or_left, or_right}
 use Rattle.std.proofs.lemmas.List.Elements.{filter-append}
 use Rattle.ov_model.specs.declared.hold.Owed.{Owed}
 use Rattle.ov_model.specs.declared.hold.Owed.TheVariants as owed
-use Rattle.ov_model.specs.Events.{Step}
 use Rattle.ov_model.specs.Path.{SomeOf, none, kept, passed}
 use Rattle.ov_path.specs.Desks.{Holding}
 use Rattle.ov_core.specs.Worlds.{key_holds, peer_holds, joined_by}
 use Rattle.ov_core.specs.Seats.{Sitting, seen, empty_seat, has, is_held, owing_more, owing_list, owe_one, owe_each, unheld, leaving}
-use Rattle.ov_core.proofs.Seats.{length-slice_set}
-use Rattle.ov_core.proofs.Marks.{set_own, set_set, set_same}
+use Rattle.ov_core.proofs.Seats.{length-slice_set, set_own, set_set, set_same}
 use Rattle.ov_core.proofs.Asking.{key_none, peer_none}
 
 -- ---- one seat that owes more
@@ -69,27 +67,27 @@ unheld_few seats (o ∷ os) =
 
 -- ---- as the world has it
 
-unheld_keys : (ss : List Step) (seats : List Sitting) (ks : List ℕ) → unheld seats (map owed.Key ks) ≡ map owed.Key (filter (λ k. key_holds k (map (seen ss) seats) == 0) ks)
-unheld_keys ss seats [] = refl
-unheld_keys ss seats (k ∷ ks) =
-    rw (key_none ss k seats) (elim (not (is_held seats (owed.Key k))) as (λ b. (if b then owed.Key k ∷ unheld seats (map owed.Key ks) else unheld seats (map owed.Key ks)) ≡ map owed.Key (if b then k ∷ filter (λ x. key_holds x (map (seen ss) seats) == 0) ks else filter (λ x. key_holds x (map (seen ss) seats) == 0) ks)) [
-      | true ↦ ap (λ os. owed.Key k ∷ os) (unheld_keys ss seats ks)
-      | false ↦ unheld_keys ss seats ks
+unheld_keys : (seats : List Sitting) (ks : List ℕ) → unheld seats (map owed.Key ks) ≡ map owed.Key (filter (λ k. key_holds k (map seen seats) == 0) ks)
+unheld_keys seats [] = refl
+unheld_keys seats (k ∷ ks) =
+    rw (key_none k seats) (elim (not (is_held seats (owed.Key k))) as (λ b. (if b then owed.Key k ∷ unheld seats (map owed.Key ks) else unheld seats (map owed.Key ks)) ≡ map owed.Key (if b then k ∷ filter (λ x. key_holds x (map seen seats) == 0) ks else filter (λ x. key_holds x (map seen seats) == 0) ks)) [
+      | true ↦ ap (λ os. owed.Key k ∷ os) (unheld_keys seats ks)
+      | false ↦ unheld_keys seats ks
     ])
 
-unheld_peers : (ss : List Step) (seats : List Sitting) (ps : List ℕ) → unheld seats (map owed.Peer ps) ≡ map owed.Peer (filter (λ p. peer_holds p (map (seen ss) seats) == 0) ps)
-unheld_peers ss seats [] = refl
-unheld_peers ss seats (p ∷ ps) =
-    rw (peer_none ss p seats) (elim (not (is_held seats (owed.Peer p))) as (λ b. (if b then owed.Peer p ∷ unheld seats (map owed.Peer ps) else unheld seats (map owed.Peer ps)) ≡ map owed.Peer (if b then p ∷ filter (λ x. peer_holds x (map (seen ss) seats) == 0) ps else filter (λ x. peer_holds x (map (seen ss) seats) == 0) ps)) [
-      | true ↦ ap (λ os. owed.Peer p ∷ os) (unheld_peers ss seats ps)
-      | false ↦ unheld_peers ss seats ps
+unheld_peers : (seats : List Sitting) (ps : List ℕ) → unheld seats (map owed.Peer ps) ≡ map owed.Peer (filter (λ p. peer_holds p (map seen seats) == 0) ps)
+unheld_peers seats [] = refl
+unheld_peers seats (p ∷ ps) =
+    rw (peer_none p seats) (elim (not (is_held seats (owed.Peer p))) as (λ b. (if b then owed.Peer p ∷ unheld seats (map owed.Peer ps) else unheld seats (map owed.Peer ps)) ≡ map owed.Peer (if b then p ∷ filter (λ x. peer_holds x (map seen seats) == 0) ps else filter (λ x. peer_holds x (map seen seats) == 0) ps)) [
+      | true ↦ ap (λ os. owed.Peer p ∷ os) (unheld_peers seats ps)
+      | false ↦ unheld_peers seats ps
     ])
 
-pub unheld_joins : (ss : List Step) (seats : List Sitting) (taken gone : List ℕ) → unheld seats (leaving taken gone) ≡ joined_by (map (seen ss) seats) taken gone
-unheld_joins ss seats taken gone =
+pub unheld_joins : (seats : List Sitting) (taken gone : List ℕ) → unheld seats (leaving taken gone) ≡ joined_by (map seen seats) taken gone
+unheld_joins seats taken gone =
     filter-append (λ o. not (is_held seats o)) (map owed.Key taken) (map owed.Peer gone)
-    ∙ ap (λ os. os ++ unheld seats (map owed.Peer gone)) (unheld_keys ss seats taken)
-    ∙ ap (λ os. map owed.Key (filter (λ k. key_holds k (map (seen ss) seats) == 0) taken) ++ os) (unheld_peers ss seats gone)
+    ∙ ap (λ os. os ++ unheld seats (map owed.Peer gone)) (unheld_keys seats taken)
+    ∙ ap (λ os. map owed.Key (filter (λ k. key_holds k (map seen seats) == 0) taken) ++ os) (unheld_peers seats gone)
 
 -- What a seat holds somebody holds.
 pub held_by : (seats : List Sitting) (i : ℕ) (s : Sitting) (o : Owed) → slice_get seats i ≡ Some s → has o s.hold ≡ true → is_held seats o ≡ true

@@ -1,23 +1,18 @@
--- The room of a seat, and the seats as an event leaves them.
-use Rattle.std.proofs.Common.{ℕ, ◌≡◌, ◌+◌, ◌-◌, ◌≤◌, ◌<◌, ◌%◌, inl, inr, List, [], ◌∷◌, ◌++◌, length, append-nil, refl, sym, ◌∙◌, ap, subst, arith}
-use Rattle.std.specs.Prelude.{map, Some, slice_get, slice_set}
+-- The seats as an event leaves them.
+use Rattle.std.proofs.Common.{ℕ, ◌≡◌, ◌-◌, ◌≤◌, ◌<◌, ◌%◌, inl, inr, List, [], ◌∷◌, ◌++◌, length, append-nil, refl, sym, ◌∙◌, ap, subst, arith}
+use Rattle.std.specs.Prelude.{Some, slice_get, slice_set}
 use Rattle.std.proofs.lemmas.List.{length-map}
 use Rattle.ov_model.specs.declared.hold.Given.{Given}
 use Rattle.ov_model.specs.declared.hold.Given.TheVariants as given
 use Rattle.ov_model.specs.declared.hold.Owed.{Owed}
-use Rattle.ov_model.specs.declared.stand.Stand.{Stand}
-use Rattle.ov_model.specs.declared.stand.Stand.TheVariants as stand
-use Rattle.ov_model.specs.Events.{Event, Step, steps_of}
-use Rattle.ov_model.specs.Next.{see, see_all, stand_of}
+use Rattle.ov_model.specs.Events.{Event}
 use Rattle.ov_path.specs.Desks.{Did, HopsStay, hold_left, owed_left, owed_if}
 use Rattle.ov_replay.specs.History.{History}
 use Rattle.ov_table.specs.Recorded.{Recorded}
-use Rattle.ov_core.specs.declared.mark.Mark.{Mark}
 use Rattle.ov_core.specs.Worlds.{Makes}
 use Rattle.ov_core.specs.Sounds.{WorldSound}
-use Rattle.ov_core.specs.Seats.{Sitting, Seated, Happened, event_of, events_of, seen, world_of, steps_at, seat_of, shown_of, histories, itself, empty_seat, owing_if, owing_list, debt, may_owe, IsWithin, Roomy, Kept}
-use Rattle.ov_core.proofs.Seats.{length-slice_set, set_case}
-use Rattle.ov_core.proofs.Marks.{get_own, set_own, map_same, map_set, map_get, all_push, events_push}
+use Rattle.ov_core.specs.Seats.{Sitting, Seated, Happened, seen, world_of, seat_of, shown_of, histories, itself, empty_seat, owing_if, owing_list, may_owe, Kept}
+use Rattle.ov_core.proofs.Seats.{length-slice_set, set_case, get_own, set_own, map_get}
 
 -- ---- the lane that has its turn
 
@@ -27,53 +22,20 @@ below d kept = let long = kept.long in let turn = kept.turn in omega arith
 pub own_at : (d : Seated) → Kept d → slice_get d.seats d.turn ≡ Some (seat_of d)
 own_at d kept = get_own d.seats d.turn empty_seat (below d kept)
 
-pub seen_at : (d : Seated) → Kept d → slice_get (world_of d).seats d.turn ≡ Some (seen (steps_at d) (seat_of d))
-seen_at d kept = map_get (seen (steps_at d)) d.seats d.turn (seat_of d) (own_at d kept)
+pub seen_at : (d : Seated) → Kept d → slice_get (world_of d).seats d.turn ≡ Some (seen (seat_of d))
+seen_at d kept = map_get seen d.seats d.turn (seat_of d) (own_at d kept)
 
-pub own_room : (d : Seated) → Kept d → Roomy (steps_at d) (seat_of d)
-own_room d kept = kept.roomy d.turn (seat_of d) (own_at d kept)
-
--- ---- room
-
-see_all-append : (s : Stand) (es fs : List Event) → see_all s (es ++ fs) ≡ see_all (see_all s es) fs
-see_all-append s [] fs = refl
-see_all-append s (e ∷ es) fs = see_all-append (see s e) es fs
-
-pub stand_push : (es : List Event) (e : Event) → stand_of (es ++ e ∷ []) ≡ see (stand_of es) e
-stand_push es e = see_all-append stand.Fresh es (e ∷ [])
-
-pub pushed : (ss : List Step) (ms : List Mark) (m : Mark) (e : Event) → event_of ss m ≡ e ∷ [] → events_of ss (ms ++ m ∷ []) ≡ events_of ss ms ++ e ∷ []
-pushed ss ms m e is = events_push ss ms m ∙ ap (λ es. events_of ss ms ++ es) is
-
--- One mark more, in the room that there is.
-pub room_push_at : (ss : List Step) (was s : Sitting) (m : Mark) (e : Event) (n : ℕ) → Roomy ss was → s.marks ≡ was.marks ++ m ∷ [] → event_of ss m ≡ e ∷ [] → IsWithin (length ss) m → s.room ≡ n - 1 → may_owe s.hold ≤ s.spare
-    → debt s.hold (see (stand_of (events_of ss was.marks)) e) + length s.owing + 1 ≤ n → Roomy ss s
-room_push_at ss was s m e n roomy marks is within room spare fits =
-    let es : List Event = events_of ss was.marks in
-    let stand_is : stand_of (events_of ss s.marks) ≡ see (stand_of es) e = rw marks (ap stand_of (pushed ss was.marks m e is) ∙ stand_push es e) in
-    let same : debt s.hold (stand_of (events_of ss s.marks)) ≡ debt s.hold (see (stand_of es) e) = ap (λ x. debt s.hold x) stand_is in
-    record {
-      within = rw marks (all_push (IsWithin (length ss)) was.marks m roomy.within within);
-      debt_fits = omega arith;
-      spare_fits = spare;
-    }
-
-pub room_push : (ss : List Step) (was s : Sitting) (m : Mark) (e : Event) → Roomy ss was → s.marks ≡ was.marks ++ m ∷ [] → event_of ss m ≡ e ∷ [] → IsWithin (length ss) m → s.room ≡ was.room - 1 → may_owe s.hold ≤ s.spare
-    → debt s.hold (see (stand_of (events_of ss was.marks)) e) + length s.owing + 1 ≤ was.room → Roomy ss s
-room_push ss was s m e roomy marks is within room spare fits = room_push_at ss was s m e was.room roomy marks is within room spare fits
+-- Its line has the room that it may need.
+pub own_spare : (d : Seated) → Kept d → may_owe (seat_of d).hold ≤ (seat_of d).spare
+own_spare d kept = kept.spare d.turn (seat_of d) (own_at d kept)
 
 -- ---- what an event leaves
 
-pub seats_set : (d : Seated) (s : Sitting) (ss : List Step) → Kept d → ((t : Sitting) → Roomy (steps_at d) t → events_of ss t.marks ≡ events_of (steps_at d) t.marks) → map (seen ss) (slice_set d.seats d.turn s) ≡ slice_set (world_of d).seats d.turn (seen ss s)
-seats_set d s ss kept same =
-    map_set (seen ss) d.seats d.turn s
-    ∙ ap (λ xs. slice_set xs d.turn (seen ss s)) (map_same (seen ss) (seen (steps_at d)) d.seats (λ k t at. ap (λ es. record { events = es; hold = t.hold; owing = t.owing }) (same t (kept.roomy k t at))))
-
-pub roomy_set : (d : Seated) (s : Sitting) (ss : List Step) → Kept d → ((t : Sitting) → Roomy (steps_at d) t → Roomy ss t) → Roomy ss s → (i : ℕ) (t : Sitting) → slice_get (slice_set d.seats d.turn s) i ≡ Some t → Roomy ss t
-roomy_set d s ss kept others own i t at =
+pub spare_set : (d : Seated) (s : Sitting) → Kept d → may_owe s.hold ≤ s.spare → (i : ℕ) (t : Sitting) → slice_get (slice_set d.seats d.turn s) i ≡ Some t → may_owe t.hold ≤ t.spare
+spare_set d s kept own i t at =
     elim (set_case d.seats d.turn i s t at) [
-      | inl here ↦ subst (λ (x : Sitting). Roomy ss x) (sym here.1) own
-      | inr there ↦ others t (kept.roomy i t there.1)
+      | inl here ↦ subst (λ (x : Sitting). may_owe x.hold ≤ x.spare) (sym here.1) own
+      | inr there ↦ kept.spare i t there.1
     ]
 
 -- An event is done: the line sees it, and what is kept stays true.
@@ -86,33 +48,32 @@ did_at same is event did = rw (← same, is, event) did
 
 -- What an event makes of the seat of the lane that has its turn, where no step of the table is made.
 pub record Change (d : Seated) (event : Event) (s : Sitting) : Type 0 where
-  pub events : events_of (steps_at d) s.marks ≡ events_of (steps_at d) (seat_of d).marks ++ event ∷ []
+  pub events : s.events ≡ (seat_of d).events ++ event ∷ []
   pub hold : s.hold ≡ hold_left (seat_of d).hold event
   pub owing : s.owing ≡ owed_left (seat_of d).owing event
-  pub room : Roomy (steps_at d) s
+  pub spare : may_owe s.hold ≤ s.spare
 
 pub quiet_done : (d e : Seated) (event : Event) (s : Sitting) → Kept d → e.table ≡ d.table → e.turn ≡ d.turn → e.seats ≡ slice_set d.seats d.turn s → ((k : ℕ) (h : History) → slice_get e.shards k ≡ Some h → h.number ≡ k) → Change d event s → HopsStay event itself itself
-    → Makes (world_of d) d.turn (seen (steps_at d) (seat_of d)) event (world_of e) → WorldSound (world_of e) → EventDone d event e
+    → Makes (world_of d) d.turn (seen (seat_of d)) event (world_of e) → WorldSound (world_of e) → EventDone d event e
 quiet_done d e event s kept table turn seats numbers change hops makes sound =
     let own : seat_of e ≡ s = rw (seats, turn) (set_own d.seats d.turn s empty_seat (below d kept)) in
-    let steps : steps_at e ≡ steps_at d = ap (λ (r : Recorded). steps_of r.journal) table in
     record {
       did = record {
         leaves = record {
-          events = ap (λ ss. events_of ss (seat_of e).marks) steps ∙ ap (λ (x : Sitting). events_of (steps_at d) x.marks) own ∙ change.events;
+          events = ap (λ (x : Sitting). x.events) own ∙ change.events;
           hold_is = ap (λ (x : Sitting). x.hold) own ∙ change.hold;
           owing_is = ap (λ (x : Sitting). x.owing) own ∙ change.owing;
           grows = λ k m is. rw table is;
           hops = hops;
         };
-        done = record { happened = record { seat = seen (steps_at d) (seat_of d); seat_is = seen_at d kept; makes = makes }; turn = turn };
+        done = record { happened = record { seat = seen (seat_of d); seat_is = seen_at d kept; makes = makes }; turn = turn };
       };
       kept = record {
         sound = sound;
         long = ap length seats ∙ length-slice_set d.seats d.turn s ∙ kept.long;
         turn = rw turn kept.turn;
         numbers = numbers;
-        roomy = rw (table, seats) (roomy_set d s (steps_at d) kept (λ t r. r) change.room);
+        spare = rw seats (spare_set d s kept change.spare);
       };
     }
 

@@ -1,5 +1,5 @@
 -- A sound script whose lanes are done gives the parts of a legal report.
-use Rattle.std.proofs.Common.{ℕ, zero, suc, ◌≡◌, ◌+◌, ◌<◌, List, [], ◌∷◌, ◌++◌, length, refl, sym, ◌∙◌, ap, subst, arith, append-nil, if◌then◌else◌, ◌==◌}
+use Rattle.std.proofs.Common.{ℕ, ◌≡◌, ◌+◌, ◌<◌, List, [], ◌∷◌, ◌++◌, length, refl, sym, ◌∙◌, ap, subst, arith, append-nil, if◌then◌else◌, ◌==◌}
 use Rattle.std.specs.Prelude.{Option, Some, None, map, slice_get}
 use Rattle.std.specs.Option.{option_map}
 use Rattle.std.specs.List.{AllByRecursion, AllPairs}
@@ -20,14 +20,10 @@ use Rattle.ov_model.proofs.Lanes.{lane_done}
 use Rattle.ov_core.specs.Worlds.{World, Seat, no_line, lane_count, next_of, peer_holds, key_holds, peer_owes, key_owes, holds_peer, holds_key, is_peer, is_key}
 use Rattle.ov_core.specs.Sessions.{Lane, Session, log_of, report_of, IsDone}
 use Rattle.ov_core.specs.Sounds.{Owes, LaneSound, Counts, Sound, IsOf, over_lanes}
+use Rattle.ov_core.proofs.Seats.{all_at}
 use Rattle.ov_core.proofs.Ending.{LaneParts, KeyParts, Parts, get_below, legal}
 
 -- ---- lists
-
-all_at : {X : Type 0} (P : X → Type 0) (xs : List X) (i : ℕ) (x : X) → AllByRecursion P xs → slice_get xs i ≡ Some x → P x
-all_at P [] i x all at = absurd (cc)
-all_at P (y ∷ xs) zero x all at = (let its : y ≡ x = cc in subst P its all.0)
-all_at P (y ∷ xs) (suc i) x all at = all_at P xs i x all.1 at
 
 total_map : {X Y : Type 0} (f : Y → ℕ) (g : X → Y) (xs : List X) → total f (map g xs) ≡ total (λ x. f (g x)) xs
 total_map f g [] = refl

@@ -11,8 +11,7 @@ use Rattle.ov_core.specs.Seats.{Seated, itself, new_seated}
 use Rattle.ov_core.specs.Sessions.{Lane, Turns, in_order, begun, report_of, Scheduled}
 use Rattle.ov_core.specs.Courses.{Coursed, lane_of}
 use Rattle.ov_core.specs.Scripts.{lanes_of, standing_of, script_at, AreCourses, dealt, TookTurns, RanOut}
-use Rattle.ov_core.proofs.Seats.{same_some}
-use Rattle.ov_core.proofs.Marks.{map_get}
+use Rattle.ov_core.proofs.Seats.{same_some, map_get}
 use Rattle.ov_core.proofs.Beginning.{is_begun}
 use Rattle.ov_core.proofs.Taking.{turns_append}
 use Rattle.ov_core.proofs.Running.{AllAnswered, member_at, turns_are, running_done, running_legal}

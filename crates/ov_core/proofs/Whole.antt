@@ -14,8 +14,7 @@ use Rattle.ov_core.specs.Scripts.{standing_then, LineRan, LinesRan, RanLine, Ran
 use Rattle.ov_core.specs.Measure.{turns_left}
 use Rattle.ov_core.proofs.Ends.{IsBegun}
 use Rattle.ov_core.proofs.Falling.{went_begun, went_falls}
-use Rattle.ov_core.proofs.Marks.{set_set}
-use Rattle.ov_core.proofs.Seats.{same_some}
+use Rattle.ov_core.proofs.Seats.{same_some, set_set}
 use Rattle.ov_core.proofs.Taking.{turns_append, line_turns}
 
 -- ---- the turns of a line

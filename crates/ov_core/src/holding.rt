@@ -1,10 +1,10 @@
 //! What the line of a lane holds.
 
 ghost use Rattle.std.specs.Prelude.{◌≡◌};
-ghost use Rattle.ov_path.specs.Desks.{held_after, look_holds, peer_left};
-ghost use Rattle.ov_core.specs.Seats.{holding};
+ghost use Rattle.ov_path.specs.Desks.{held_after, look_holds};
+ghost use Rattle.ov_core.specs.Seats.{holding, hold_without};
 
-use ov_model::{Act, HoldView, Reply};
+use ov_model::{Act, HoldView, Owed, Reply};
 
 /// Nothing, a peer and its key, or a peer whose key was given back.
 #[derive(Clone, Copy, Debug, PartialEq, Eq)]
@@ -40,13 +40,14 @@ impl Hold {
         }
     }
 
-    /// After the key was given back.
-    pub fn without_key(self) -> Hold
-        ensures { holding result ≡ peer_left (holding self) }
+    /// After the key or the peer was given back: only the peer is held on, or nothing.
+    pub fn without(self, owed: Owed) -> Hold
+        ensures { holding result ≡ hold_without owed (holding self) }
     {
-        match self {
-            Hold::Both(view) => Hold::PeerLeft(view),
-            Hold::PeerLeft(_) | Hold::Nothing => self,
+        match (owed, self) {
+            (Owed::Key(_), Hold::Both(view)) => Hold::PeerLeft(view),
+            (Owed::Key(_), other) => other,
+            (Owed::Peer(_), _) => Hold::Nothing,
         }
     }
 }

@@ -4,7 +4,7 @@
 mod counters;
 mod course;
 mod holding;
-mod mark;
+mod past;
 mod seat;
 mod session;
 #[cfg(test)]

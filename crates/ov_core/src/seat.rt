@@ -1,22 +1,18 @@
-//! A lane's seat: what its present line has done and holds, and what it owes. A line takes the room for its
-//! events and for what it may come to owe where it begins, so that nothing after its look-up wants memory.
+//! A lane's seat: what its present line has done and holds, and what it owes. A line takes the room for what it
+//! may come to owe where it begins, so that no release wants memory.
 
 ghost use Rattle.std.specs.Prelude.{◌≡◌, ◌<◌, ◌-◌, [], ◌∷◌, ◌++◌, OnOk, OnErr, IsSome};
-ghost use Rattle.ov_model.specs.declared.hold.Owed.TheVariants as owed;
-ghost use Rattle.ov_core.specs.declared.mark.Mark.TheVariants as mark;
+ghost use Rattle.ov_core.specs.Pasts.{event_of, gave};
 ghost use Rattle.ov_core.specs.Seats as spec;
-ghost use Rattle.ov_path.specs.Desks.{NoHold, held_after, peer_left, first_owed, after_first};
+ghost use Rattle.ov_path.specs.Desks.{held_after, stepped_as, first_owed, after_first};
 
 use crate::holding::Hold;
-use crate::mark::{Judged, Mark};
+use crate::past::{Happening, Past};
 use ov_base::Memory;
-use ov_model::{Act, Drawn, Given, Owed, Reply};
+use ov_model::{Act, Call, Given, Owed, Place, Reply};
+use ov_table::Table;
 use std::alloc::Global;
 use std::marker::Model;
-
-/// The events that a line may make once it has begun: the step that begins it, a draw or a replay step, a
-/// step, two give-backs and two releases.
-const MOST_MARKS: usize = 7;
 
 /// What a line may come to owe: two keys and a peer, which a command removed.
 const MOST_OWED: usize = 3;
@@ -24,8 +20,7 @@ const MOST_OWED: usize = 3;
 /// What a lane's present line has done, holds and owes.
 #[derive(Drop)]
 pub struct Seat {
-    marks: Vec<Mark>,
-    room: usize,
+    past: Past,
     hold: Hold,
     owing: Vec<Owed>,
     spare: usize,
@@ -39,14 +34,13 @@ impl Model for Seat {
     ghost Value = { seats.Sitting };
 
     ghost view = { λ s. record {
-      marks = s.marks.items;
-      room = s.room;
+      events = s.past;
       hold = seats.holding s.hold;
       owing = s.owing.items;
       spare = s.spare;
     } };
 
-    ghost invariant = { λ s. (vec_len s.marks + s.room ≤ vec_capacity s.marks) × (vec_len s.owing + s.spare ≤ vec_capacity s.owing) };
+    ghost invariant = { λ s. vec_len s.owing + s.spare ≤ vec_capacity s.owing };
 }
 
 impl Seat {
@@ -55,8 +49,7 @@ impl Seat {
         ensures { result ≡ spec.empty_seat }
     {
         Seat {
-            marks: Vec::new(alloc),
-            room: 0,
+            past: Past::new(),
             hold: Hold::Nothing,
             owing: Vec::new(alloc),
             spare: 0,
@@ -90,39 +83,16 @@ impl Seat {
         self.owing.as_slice().first().copied()
     }
 
-    /// Takes room for a whole line. After Memory the line is as it was.
-    fn make_room(&mut self) -> Result<(), Memory>
-        ensures ok { OnOk result (self.new ≡ record self.old { room = 7; spare = 3 }) }
-        ensures err { OnErr result (self.new ≡ self.old) }
-    {
-        self.marks.reserve(MOST_MARKS)?;
-        self.owing.reserve(MOST_OWED)?;
-        self.room = MOST_MARKS;
-        self.spare = MOST_OWED;
-        Ok(())
-    }
-
-    /// Takes the room where a step begins a line. After Memory the line is as it was.
+    /// Takes the room for what is owed where a step begins a line. After Memory the line is as it was.
     pub fn begin(&mut self, act: &Act) -> Result<(), Memory>
         ensures ok { OnOk result (self.new ≡ spec.seat_begun act.now self.old) }
         ensures err { OnErr result (self.new ≡ self.old) }
     {
         if begins_line(act) {
-            self.make_room()?;
+            self.owing.reserve(MOST_OWED)?;
+            self.spare = MOST_OWED;
         }
         Ok(())
-    }
-
-    /// Appends an event in the room that was taken.
-    fn mark(&mut self, mark: Mark)
-        requires { 0 < self.old.room }
-        ensures { self.new ≡ record self.old {
-          marks = self.old.marks ++ mark ∷ [];
-          room = self.old.room - 1;
-        } }
-    {
-        self.marks.push_reserved(mark);
-        self.room -= 1;
     }
 
     /// Owes a release, in the room that was taken.
@@ -137,111 +107,68 @@ impl Seat {
         self.spare -= 1;
     }
 
-    /// Owes a release where a hold that was given back was the last.
-    fn owe_if(&mut self, given: Given, owed: Owed)
-        requires { 0 < self.old.spare }
-        ensures { self.new ≡ spec.owing_if self.old given owed }
+    /// A step of the table was made, which left it so.
+    pub fn stepped(&mut self, place: Place, call: &Call, reply: &Reply, left: &Table)
+        ensures { self.new ≡ record self.old {
+          events = self.old.events ++
+              stepped_as place call.now reply.now left.now.taken ∷ [];
+          hold = held_after self.old.hold call.now.act reply.now;
+        } }
     {
+        self.past.push(Happening::stepped(place, call, reply, left));
+        self.hold = self.hold.after(&call.act, reply);
+    }
+
+    /// An event came that is neither a step of the table nor a give-back.
+    pub fn saw(&mut self, event: Happening)
+        ensures { self.new ≡ record self.old {
+          events = self.old.events ++ event_of event ∷ [];
+        } }
+    {
+        self.past.push(event);
+    }
+
+    /// The key or the peer is given back: only the peer is held on, or nothing.
+    pub fn let_go(&mut self, owed: Owed)
+        ensures { self.new ≡ record self.old {
+          hold = spec.hold_without owed self.old.hold;
+        } }
+    {
+        self.hold = self.hold.without(owed);
+    }
+
+    /// What giving it back answered: where that was the last hold, the release is owed.
+    pub fn gave(&mut self, owed: Owed, given: Given)
+        requires { 0 < self.old.spare }
+        ensures { self.new ≡ spec.owing_if (record self.old {
+          events = self.old.events ++ gave owed given ∷ [];
+        }) given owed }
+    {
+        self.past.push(Happening::Gave(owed, given));
         match given {
             Given::Last => self.owe(owed),
             Given::More => (),
         }
     }
 
-    /// A step of the table was made, whose entry stands at a place of the journal.
-    pub fn stepped(&mut self, entry: usize, act: &Act, reply: &Reply)
-        requires { 0 < self.old.room }
+    /// The release that is owed first was made, and left the table so.
+    pub fn released(&mut self, place: Place, call: &Call, reply: &Reply, left: &Table)
+        requires { IsSome (first_owed self.old.owing) }
         ensures { self.new ≡ record self.old {
-          marks = self.old.marks ++ mark.Stepped entry ∷ [];
-          room = self.old.room - 1;
-          hold = held_after self.old.hold act.now reply.now;
-        } }
-    {
-        self.hold = self.hold.after(act, reply);
-        self.mark(Mark::Stepped(entry));
-    }
-
-    /// A packet id was judged.
-    pub fn judged(&mut self, judged: Judged)
-        requires { 0 < self.old.room }
-        ensures { self.new ≡ record self.old {
-          marks = self.old.marks ++ mark.Judged judged ∷ [];
-          room = self.old.room - 1;
-        } }
-    {
-        self.mark(Mark::Judged(judged));
-    }
-
-    /// A counter was asked.
-    pub fn drew(&mut self, key: u32, drawn: Drawn)
-        requires { 0 < self.old.room }
-        ensures { self.new ≡ record self.old {
-          marks = self.old.marks ++ mark.Drew key drawn ∷ [];
-          room = self.old.room - 1;
-        } }
-    {
-        self.mark(Mark::Drew(key, drawn));
-    }
-
-    /// The key is given back: only the peer is held on.
-    pub fn let_key_go(&mut self)
-        ensures { self.new ≡ record self.old { hold = peer_left self.old.hold } }
-    {
-        self.hold = self.hold.without_key();
-    }
-
-    /// What giving back the key answered.
-    pub fn gave_key(&mut self, key: u32, given: Given)
-        requires room { 0 < self.old.room }
-        requires spare { 0 < self.old.spare }
-        ensures { self.new ≡ spec.owing_if (record self.old {
-          marks = self.old.marks ++ mark.GaveKey key given ∷ [];
-          room = self.old.room - 1;
-        }) given (owed.Key key) }
-    {
-        self.mark(Mark::GaveKey(key, given));
-        self.owe_if(given, Owed::Key(key));
-    }
-
-    /// The peer is given back: nothing is held.
-    pub fn let_peer_go(&mut self)
-        ensures { self.new ≡ record self.old { hold = NoHold } }
-    {
-        self.hold = Hold::Nothing;
-    }
-
-    /// What giving back the peer answered.
-    pub fn gave_peer(&mut self, peer: u32, given: Given)
-        requires room { 0 < self.old.room }
-        requires spare { 0 < self.old.spare }
-        ensures { self.new ≡ spec.owing_if (record self.old {
-          marks = self.old.marks ++ mark.GavePeer peer given ∷ [];
-          room = self.old.room - 1;
-        }) given (owed.Peer peer) }
-    {
-        self.mark(Mark::GavePeer(peer, given));
-        self.owe_if(given, Owed::Peer(peer));
-    }
-
-    /// The release that is owed first was made, and its entry stands at a place of the journal.
-    pub fn released(&mut self, entry: usize)
-        requires room { 0 < self.old.room }
-        requires owes { IsSome (first_owed self.old.owing) }
-        ensures { self.new ≡ record self.old {
-          marks = self.old.marks ++ mark.Stepped entry ∷ [];
-          room = self.old.room - 1;
+          events = self.old.events ++
+              stepped_as place call.now reply.now left.now.taken ∷ [];
           owing = after_first self.old.owing;
         } }
     {
         self.owing.remove(0);
-        self.mark(Mark::Stepped(entry));
+        self.past.push(Happening::stepped(place, call, reply, left));
     }
 
     /// The line is over: its events are forgotten.
     pub fn clear(&mut self)
-        ensures { self.new ≡ record self.old { marks = [] } }
+        ensures { self.new ≡ record self.old { events = [] } }
     {
-        self.marks.clear();
+        self.past = Past::new();
     }
 }
 

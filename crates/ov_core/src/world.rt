@@ -1,19 +1,20 @@
 //! The world of all lanes: the peer table, the eight replay shards, the send counters, and a seat for each
 //! lane. To the lane that has its turn it is the desk. It is kept true that what is held is there, that what
-//! is on its way out and held by nobody is owed by exactly one lane, and that each line has the room that it
-//! may need.
+//! is on its way out and held by nobody is owed by exactly one lane, and that each line has the room for what it
+//! may come to owe.
 
 ghost use Rattle.std.specs.Prelude.{◌≡◌, ◌<◌, ◌≤◌, ◌+◌, [], length, map, get_or, IfOk, OnOk, IsSome, IsTrue, slice_get};
 ghost use Rattle.std.specs.List.{AllByRecursion, list_any};
 ghost use Rattle.ov_model.specs.declared.hold.Owed.TheVariants as owed;
 ghost use Rattle.ov_model.specs.Path.{removed};
 ghost use Rattle.ov_model.specs.Replay.{ShardJudges};
-ghost use Rattle.ov_core.specs.Seats.{Seated, Kept, new_seated, histories};
+ghost use Rattle.ov_core.specs.Pasts.{gave};
+ghost use Rattle.ov_core.specs.Seats.{Seated, Kept, GivesBack, Happened, shown_of, new_seated, histories};
 ghost use Rattle.ov_core.specs.Seats as spec;
-ghost use Rattle.ov_path.specs.Desks.{NoHold};
+ghost use Rattle.ov_path.specs.Desks.{NoHold, Did};
 
 use crate::counters::{count_key, drawn, following};
-use crate::mark::Judged;
+use crate::past::{Happening, Judged};
 use crate::seat::Seat;
 use ov_base::{Addr, ListOf, Memory};
 use ov_keys::KeyPair;
@@ -128,12 +129,11 @@ impl Desk for World {
     fn table(&mut self, place: Place, call: &Call) -> Result<Reply, Memory> {
         self.next.reserve(1)?;
         self.seats[self.turn].begin(&call.act)?;
-        let entry = self.table.journal().len();
         let reply = self.table.step(place, call)?;
         count_key(&mut self.next, self.first, &call.act, &reply);
         owe_taken(&mut self.seats, self.turn, self.table.taken());
         owe_removed(&mut self.seats, self.turn, removed_by(&reply));
-        self.seats[self.turn].stepped(entry, &call.act, &reply);
+        self.seats[self.turn].stepped(place, call, &reply, &self.table);
         Ok(reply)
     }
 
@@ -144,13 +144,13 @@ impl Desk for World {
     fn replay(&mut self, place: Place, key: u32, id: u32, at: u32) -> Result<Verdict, Memory> {
         let shard = (key % SHARDS) as usize;
         let verdict = self.shards[shard].step(place, key, id, at)?;
-        self.seats[self.turn].judged(Judged {
+        self.seats[self.turn].saw(Happening::Judged(Judged {
             place,
             key,
             id,
             at,
             verdict,
-        });
+        }));
         Ok(verdict)
     }
 
@@ -158,22 +158,16 @@ impl Desk for World {
         let next = self.next[key as usize];
         let result = drawn(next);
         self.next[key as usize] = following(next);
-        self.seats[self.turn].drew(key, result);
+        self.seats[self.turn].saw(Happening::Drew(key, result));
         result
     }
 
     fn give_back_key(&mut self, key: u32) -> Given {
-        self.seats[self.turn].let_key_go();
-        let given = last_of(&self.table, self.seats.as_slice(), Owed::Key(key));
-        self.seats[self.turn].gave_key(key, given);
-        given
+        self.let_go(Owed::Key(key))
     }
 
     fn give_back(&mut self, peer: u32) -> Given {
-        self.seats[self.turn].let_peer_go();
-        let given = last_of(&self.table, self.seats.as_slice(), Owed::Peer(peer));
-        self.seats[self.turn].gave_peer(peer, given);
-        given
+        self.let_go(Owed::Peer(peer))
     }
 
     fn owed(&self) -> Option<Owed> {
@@ -181,11 +175,11 @@ impl Desk for World {
     }
 
     fn release(&mut self, place: Place, at: u32, owed: Owed) {
-        let entry = self.table.journal().len();
-        let Ok(_reply) = self.table.step(place, &release_call(at, owed)) else {
+        let call = release_call(at, owed);
+        let Ok(reply) = self.table.step(place, &call) else {
             unreachable!();
         };
-        self.seats[self.turn].released(entry);
+        self.seats[self.turn].released(place, &call, &reply, &self.table);
     }
 
     fn via(&self, addr: Addr) -> Addr {
@@ -194,6 +188,18 @@ impl Desk for World {
 }
 
 impl World {
+    /// Gives back the key or the peer that the lane holds. Where nobody else holds it and it is on its way out,
+    /// that was the last hold, and its release is owed.
+    fn let_go(&mut self, owed: Owed) -> Given
+        requires { GivesBack (shown_of self.old).hold owed }
+        ensures { Did shown_of Happened self.old (gave owed result) self.new }
+    {
+        self.seats[self.turn].let_go(owed);
+        let given = last_of(&self.table, self.seats.as_slice(), owed);
+        self.seats[self.turn].gave(owed, given);
+        given
+    }
+
     /// What the world keeps true, for whoever runs lines in it.
     pub fn keeps(&self)
         ensures { Kept self.now }

@@ -4,20 +4,21 @@ use Rattle.std.specs.Prelude.{Option, Some, None, find, slice_get, slice_set, is
 use Rattle.std.proofs.lemmas.Bool.{cases_eq}
 use Rattle.std.proofs.lemmas.Bool.Decides.{nat_tests}
 use Rattle.ov_base.specs.declared.address.Transport.{Transport}
+use Rattle.ov_model.specs.declared.ident.PeerId.{PeerId}
 use Rattle.ov_model.specs.declared.command.Slot.{Slot}
 use Rattle.ov_model.specs.declared.command.Slot.TheVariants.{Primary, Secondary}
 use Rattle.std.proofs.lemmas.Bool.{or_cases}
-use Rattle.ov_model.specs.Tables.{Peer, Key, Slots, key_if_any, by_remote, by_key, is_key, without_key, with_slot}
+use Rattle.ov_model.specs.Tables.{Peer, Key, Slots, key_if_any, by_remote, by_key, is_key, without_key, with_slot, swapped, has_id, change_first}
 use Rattle.ov_model.specs.declared.reply.Settled.{Settled}
 use Rattle.ov_model.specs.declared.reply.Settled.TheVariants as settled
-use Rattle.ov_model.specs.Step.{has_key, with_key, sent_peer, received_peer, settled_peer}
+use Rattle.ov_model.specs.Step.{has_key, with_key, with_slots, sent_peer, received_peer, settled_peer}
 use Rattle.ov_index.specs.declared.name.Host.TheVariants.{V4, V6}
 use Rattle.ov_index.specs.declared.name.Name.{Name}
 use Rattle.ov_index.specs.declared.name.Name.TheVariants.{Id, Vpn, Remote}
 use Rattle.ov_index.specs.Names.{has_name}
 use Rattle.ov_index.specs.Index.{present, standing, IsIndex}
 use Rattle.ov_index.proofs.Slots.{get_more, get_last, standing_at}
-use Rattle.ov_index.proofs.Held.{Owner, Homes, Places, Reowned, put_at, free, remote_free}
+use Rattle.ov_index.proofs.Held.{Owner, Homes, Places, Reowned, put_at, free, remote_free, named_at, named_nowhere}
 
 pub same_one : {X : Type 0} (x y : X) → Some x ≡ Some y → x ≡ y
 same_one x y is = cc
@@ -204,3 +205,36 @@ settled_alike now inner outer settled.NotIp p = record { serial = refl; names = 
 
 pub alike_kept : (o : Owner) (h : Homes) (s : Places) (k : ℕ) (p q : Peer) → IsIndex o h s → standing s k ≡ Some p → Alike p q → IsIndex o h (slice_set s k (Some q))
 alike_kept o h s k p q i stands a = kept_all o h s k p q i stands a.serial a.names a.slots
+
+-- ---- what commands do to slots
+
+-- One has other slots, and no key that it hadn't.
+pub no_more_keys : (o : Owner) (h : Homes) (s : Places) (k : ℕ) (p q : Peer) (change : Slots → Slots) → IsIndex o h s → standing s k ≡ Some p → q ≡ with_slots change p → ((key : ℕ) → is_some (by_key key (change p.slots)) ≡ true → is_some (by_key key p.slots) ≡ true) → IsIndex o h (slice_set s k (Some q))
+no_more_keys o h s k p q change i stands is fewer = rw is
+    (kept_names o h h s k p (with_slots change p) i stands refl (same_names p _ refl refl refl refl) (λ x j home. home)
+    (λ x has. i.home k x p (standing_at s k p stands) (fewer x has)))
+
+-- The keys are the same after a swap.
+pub key_swapped : (s : Slots) (key : ℕ) → is_some (by_key key (swapped s)) ≡ true → is_some (by_key key s) ≡ true
+key_swapped s key has =
+    let e : (is_key key s.secondary || is_key key s.primary) ≡ true = sym (key_first key s.secondary s.primary) ∙ has in
+    key_first key s.primary s.secondary ∙ elim (or_cases (is_key key s.secondary) (is_key key s.primary) e) [
+      | inl second ↦ or_right (is_key key s.primary) (is_key key s.secondary) second
+      | inr first ↦ or_left (is_key key s.primary) (is_key key s.secondary) first
+    ]
+
+-- A key that is left where a slot became empty was there.
+pub key_of_emptied : (slot : Slot) (s : Slots) (key : ℕ) → is_some (by_key key (with_slot slot None s)) ≡ true → is_some (by_key key s) ≡ true
+key_of_emptied Primary s key has = key_first key s.primary s.secondary ∙ or_right (is_key key s.primary) (is_key key s.secondary) (sym (key_first key None s.secondary) ∙ has)
+key_of_emptied Secondary s key has = key_first key s.primary s.secondary ∙ or_left (is_key key s.primary) (is_key key s.secondary) (let e : (is_key key s.primary || false) ≡ true = sym (key_first key s.primary None) ∙ has in or_false (is_key key s.primary) e)
+
+-- ---- who has an id is changed where he stands
+
+-- The one with an id is changed.
+pub id_changed : (o : Owner) (h : Homes) (s now : Places) → IsIndex o h s → (id : PeerId) (k : ℕ) (p q : Peer) (change : Peer → Peer) → o (Id id.number) ≡ Some k → standing s k ≡ Some p → now ≡ slice_set s k (Some q) → q ≡ change p → present now ≡ change_first (has_id id) change (present s)
+id_changed o h s now i id k p q change owns stands is by =
+    ap present is ∙ ap (λ x. present (slice_set s k (Some x))) by ∙ sym ((named_at o h s i (Id id.number) k p owns (standing_at s k p stands)).changed change)
+
+-- Nobody has the id.
+pub id_nowhere : (o : Owner) (h : Homes) (s : Places) → IsIndex o h s → (id : PeerId) (change : Peer → Peer) → o (Id id.number) ≡ None → present s ≡ change_first (has_id id) change (present s)
+id_nowhere o h s i id change none = sym ((named_nowhere o h s i (Id id.number) none).same change)

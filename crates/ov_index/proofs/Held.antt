@@ -213,11 +213,11 @@ host_is (addr.V4 a) (V6 b) is = absurd (let e : ◌≡◌ {A = Bool} false true 
 host_is (addr.V6 a) (V4 b) is = absurd (let e : ◌≡◌ {A = Bool} false true = is in cc)
 host_is (addr.V6 a) (V6 b) is = ap V6 ((bytes_eq-Decides a b).0 is)
 
-vpn_free : (its : Peer → Option (List ℕ)) (v : Option (List ℕ)) (x : List ℕ) (live : List Peer) → list_any (λ q. same_vpn (its q) v) live ≡ false → same_vpn v (Some x) ≡ true → list_any (λ q. same_vpn (its q) (Some x)) live ≡ false
+pub vpn_free : (its : Peer → Option (List ℕ)) (v : Option (List ℕ)) (x : List ℕ) (live : List Peer) → list_any (λ q. same_vpn (its q) v) live ≡ false → same_vpn v (Some x) ≡ true → list_any (λ q. same_vpn (its q) (Some x)) live ≡ false
 vpn_free its None x live none is = absurd (let e : ◌≡◌ {A = Bool} false true = is in cc)
 vpn_free its (Some y) x live none is = subst (λ z. list_any (λ q. same_vpn (its q) (Some z)) live ≡ false) ((bytes_eq-Decides y x).0 is) none
 
-neither : (a b : Bool) → (a || b) ≡ false → (a ≡ false) × (b ≡ false)
+pub neither : (a b : Bool) → (a || b) ≡ false → (a ≡ false) × (b ≡ false)
 neither true b is = absurd (let e : ◌≡◌ {A = Bool} true false = is in cc)
 neither false b is = (refl, is)
 

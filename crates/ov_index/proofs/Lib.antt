@@ -6,3 +6,11 @@ pub mod Slots
 pub mod Held
 -- The index goes on saying the truth where one peer is changed or taken out.
 pub mod Changed
+-- Lists that rise strictly by a number: a sort makes the one that the definition names.
+pub mod Rising
+-- What the other live peers have: the maps say it, and what they haven't a peer may take.
+pub mod Others
+-- A member of a list with holes that is taken out, changed and put back at its place.
+pub mod Back
+-- A list of those that are gone goes on saying the truth of its places as one joins and one is taken out.
+pub mod Listed

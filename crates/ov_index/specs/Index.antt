@@ -1,7 +1,7 @@
 -- The live peers with the counts of all peers and keys that were ever made.
 use Rattle.std.specs.Prelude.{ℕ, ◌≡◌, List, [], ◌∷◌, Option, Some, None, slice_get, true}
-use Rattle.ov_base.specs.declared.address.Transport.{Transport}
-use Rattle.ov_model.specs.Tables.{Peer, Key, by_key}
+use Rattle.ov_model.specs.declared.command.Slot.{Slot}
+use Rattle.ov_model.specs.Tables.{Peer, Key, by_key, in_slot}
 use Rattle.ov_model.specs.Step.{has_key}
 use Rattle.ov_index.specs.declared.name.Name.{Name}
 use Rattle.ov_index.specs.Names.{has_name}
@@ -31,11 +31,6 @@ standing_in (Some slot) = slot
 abbrev pub standing : {X : Type 0} → List (Option X) → ℕ → Option X
 standing slots k = standing_in (slice_get slots k)
 
--- A peer with another remote, where one is given.
-abbrev pub moved : Option Transport → Peer → Peer
-moved None p = p
-moved (Some remote) p = record p { remote = remote }
-
 -- What the maps say is what the places say: each peer stands at the place of its serial, is the one that its
 -- names lead to, and they lead nowhere else; and each key of a slot was made for the peer that has it.
 pub record IsIndex (owner : Name → Option ℕ) (homes : List ℕ) (slots : List (Option Peer)) : Type 0 where
@@ -48,3 +43,8 @@ pub record IsIndex (owner : Name → Option ℕ) (homes : List ℕ) (slots : Lis
 abbrev pub key_taken : ℕ → Option Peer → Option Key
 key_taken key None = None
 key_taken key (Some p) = by_key key p.slots
+
+-- What stands in a slot of a peer, if there is that peer.
+abbrev pub slot_of : Slot → Option Peer → Option Key
+slot_of slot None = None
+slot_of slot (Some p) = in_slot slot p.slots

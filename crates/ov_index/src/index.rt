@@ -8,13 +8,14 @@ ghost use Rattle.ov_model.specs.Tables as tables;
 ghost use Rattle.ov_index.specs.Index.{no_peers};
 
 mod changes;
+mod commands;
 mod looks;
 
 use crate::name::Name;
 use crate::names::{Owners, make_room, put_all, take_all};
-use crate::peer::Peer;
 use ov_base::{Memory, Transport};
 use ov_model::{Attrs, PeerId};
+use ov_peer::Peer;
 use std::alloc::Global;
 use std::collections::HashMap;
 use std::marker::Model;

@@ -1,11 +1,12 @@
 //! The live peers in the order of making, found by id, by VPN address, by transport and by serial without a search.
 #![tactic(auto)]
 
+mod gone;
 mod index;
 mod name;
 mod names;
-mod peer;
 mod places;
 
+pub use gone::{Gone, Numbered};
 pub use index::Index;
-pub use peer::Peer;
+pub use ov_peer::Peer;

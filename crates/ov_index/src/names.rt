@@ -5,8 +5,8 @@ ghost use Rattle.std.specs.HashMap.{get, spare};
 ghost use Rattle.ov_index.specs.Names.{same_name, is_name, has_name};
 
 use crate::name::{Name, remote_name, vpn4_name, vpn6_name};
-use crate::peer::Peer;
 use ov_base::Memory;
+use ov_peer::Peer;
 use std::collections::HashMap;
 
 /// From a name to the serial of the live peer that has it. The hasher's seed is fixed.

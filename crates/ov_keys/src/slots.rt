@@ -1,7 +1,7 @@
 // The two places for keys that a peer has.
 
 ghost use Rattle.std.specs.Prelude.{◌≡◌, None, Some, option_copied};
-ghost use Rattle.ov_model.specs.Tables.{no_keys, in_slot, with_slot, by_key, without_key};
+ghost use Rattle.ov_model.specs.Tables.{no_keys, in_slot, with_slot, swapped, by_key, without_key};
 ghost use Rattle.ov_model.specs.Tables as tables;
 ghost use Rattle.ov_keys.specs.Ids.{is_id};
 
@@ -113,6 +113,13 @@ impl Slots {
             Slot::Primary => self.primary.take(),
             Slot::Secondary => self.secondary.take(),
         }
+    }
+
+    /// Exchanges what stands in the two slots.
+    pub fn swap(&mut self)
+        ensures { self.new ≡ swapped self.old }
+    {
+        mem::swap(&mut self.primary, &mut self.secondary);
     }
 }
 

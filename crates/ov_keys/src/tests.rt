@@ -99,6 +99,23 @@ fn a_key_is_killed_in_either_slot(rt: HostRuntime) -> Result<(), Fail> {
 }
 
 #[test]
+fn a_swap_exchanges_what_stands_in_the_slots(rt: HostRuntime) -> Result<(), Fail> {
+    let alloc = rt.alloc();
+    let mut slots = Slots::new();
+    slots.install(Slot::Primary, KeyRec::of(alloc, 6, &conf(&rt, 0))?);
+    for (primary, secondary) in [(None, Some(6)), (Some(6), None)] {
+        slots.swap();
+        assert_eq!(rt; serial(slots.at(Slot::Primary)), primary);
+        assert_eq!(rt; serial(slots.at(Slot::Secondary)), secondary);
+    }
+    slots.install(Slot::Secondary, KeyRec::of(alloc, 7, &conf(&rt, 1))?);
+    slots.swap();
+    assert_eq!(rt; serial(slots.primary()), Some(7));
+    assert_eq!(rt; serial(slots.at(Slot::Secondary)), Some(6));
+    Ok(())
+}
+
+#[test]
 fn no_byte_of_a_direction_is_printed(rt: HostRuntime) -> Result<(), Fail> {
     let text = format!(in rt.alloc(); "{:?}", dir(171))?;
     assert!(rt; text.as_str() == "KeyDir(a key of 16 bytes, a tail of 8)");

@@ -1,8 +1,7 @@
 -- The compact text of a line that makes a key says the line.
-use Rattle.std.proofs.Common.{◌≡◌, ◌∙◌, ℕ, ◌<◌, ◌≤◌, ◌^◌, List, ◌∷◌, ◌++◌, codes, Some, refl, sym, ap, ap₂, subst, append_assoc, arith}
+use Rattle.std.proofs.Common.{◌≡◌, ◌∙◌, ℕ, ◌<◌, ◌≤◌, ◌^◌, List, ◌∷◌, ◌++◌, codes, Some, None, refl, sym, ap, ap₂, subst, append_assoc, arith}
 use Rattle.std.specs.Prelude.{decimal}
 use Rattle.std.specs.Str.{IsUtf8}
-use Rattle.std.proofs.lemmas.Bool.{le-leb}
 use Rattle.json.specs.Print.{escape, quoted}
 use Rattle.json.proofs.Printed.Utf8.{IsUtf8-are_ascii}
 use Rattle.serde_json.specs.Read.{read, of_json}
@@ -14,11 +13,9 @@ use Rattle.ov_model.specs.declared.command.Slot.TheVariants.{Primary}
 use Rattle.ov_model.specs.declared.netlink.Cipher.TheVariants.{AesGcm}
 use Rattle.ov_model.specs.declared.netlink.NlKeyDir.{NlKeyDir}
 use Rattle.ov_model.specs.declared.netlink.NlKeyConf.{NlKeyConf}
-use Rattle.ov_line.specs.declared.grammar.Form.TheVariants as form
 use Rattle.ov_model.specs.declared.netlink.NlOp.TheVariants as op
-use Rattle.ov_line.specs.Compact.{key_text, key_data, conf_data, dir_text, dir_data, IsDir}
-use Rattle.ov_line.specs.Grammar.{Says, key_message_of}
-use Rattle.ov_line.specs.Keyconf.{dir_of, conf_of}
+use Rattle.ov_line.specs.Compact.{key_text, key_data, conf_data, dir_text, dir_data, IsDirText}
+use Rattle.ov_line.specs.Grammar.{Says, IsDir}
 use Rattle.ov_line.proofs.PlainText.{IsPlain, text_utf8, reads_compact, string_text, escape_decoded}
 
 -- The text in its pieces, as they are taken off its front.
@@ -76,22 +73,21 @@ plain_data at opening opening_tail sealing sealing_tail key_id peer lane a k p l
     let conf : IsPlain (conf_data opening opening_tail sealing sealing_tail key_id peer) = (IsUtf8-are_ascii _ refl, IsUtf8-are_ascii _ refl, (IsUtf8-are_ascii _ refl, opens, (IsUtf8-are_ascii _ refl, seals, (IsUtf8-are_ascii _ refl, k, (IsUtf8-are_ascii _ refl, p, (IsUtf8-are_ascii _ refl, IsUtf8-are_ascii _ refl, tt)))))) in
     (IsUtf8-are_ascii _ refl, a, (IsUtf8-are_ascii _ refl, IsUtf8-are_ascii _ refl, (IsUtf8-are_ascii _ refl, conf, (IsUtf8-are_ascii _ refl, l, tt))))
 
-dir_read : (key tail : List ℕ) (dir : NlKeyDir) → IsDir key tail dir → dir_of (dir_data key tail) ≡ Some dir
+dir_read : (key tail : List ℕ) (dir : NlKeyDir) → IsDirText key tail dir → IsDir (dir_data key tail) dir
 unfolding serde_json_on_literals
-dir_read key tail dir h = rw (h.key_read, h.tail_read, h.key_length, h.tail_length) (ap Some (sym h.dir_is))
+dir_read key tail dir h =
+    subst (IsDir (dir_data key tail)) (sym h.dir_is) (record {
+      only = refl;
+      cipher_key = record { text = key; given = refl; digits = h.key_read; short = h.key_short };
+      nonce_tail = record { text = tail; given = refl; digits = h.tail_read; short = h.tail_short };
+    })
 
 abbrev pub conf_with_dirs : ℕ → ℕ → NlKeyDir → NlKeyDir → NlKeyConf
 conf_with_dirs peer key_id encrypt decrypt = record { peer_id = Some peer; slot = Some Primary; key_id = Some key_id; cipher = Some AesGcm; encrypt = Some encrypt; decrypt = Some decrypt }
 
-conf_read : (opening opening_tail sealing sealing_tail : List ℕ) (opens seals : NlKeyDir) (key_id peer : ℕ) → IsDir opening opening_tail opens → IsDir sealing sealing_tail seals → key_id ≤ 7 → peer ≤ 16777215
-    → conf_of (conf_data opening opening_tail sealing sealing_tail key_id peer) ≡ Some (conf_with_dirs peer key_id seals opens)
-unfolding serde_json_on_literals conf_of
-conf_read opening opening_tail sealing sealing_tail opens seals key_id peer ho hs k p =
-    rw (dir_read opening opening_tail opens ho, dir_read sealing sealing_tail seals hs, le-leb 0 key_id (omega arith), le-leb key_id 7 k, le-leb 0 peer (omega arith), le-leb peer 16777215 p) refl
-
 pub says_key : (bytes : List ℕ) (lanes at : ℕ) (opening opening_tail sealing sealing_tail : List ℕ) (key_id peer lane : ℕ) (opens seals : NlKeyDir) → bytes ≡ key_text at opening opening_tail sealing sealing_tail key_id peer lane
-    → at < 2 ^ 32 → lane < 2 ^ 32 → lane < lanes → key_id ≤ 7 → peer ≤ 16777215 → IsDir opening opening_tail opens → IsDir sealing sealing_tail seals
-    → Says bytes lanes (record { lane = lane; at = at; deed = deed.Netlink (key_message_of (conf_with_dirs peer key_id seals opens)) })
+    → at < 2 ^ 32 → lane < 2 ^ 32 → lane < lanes → key_id < 2 ^ 32 → peer < 2 ^ 32 → IsDirText opening opening_tail opens → IsDirText sealing sealing_tail seals
+    → Says bytes lanes (record { lane = lane; at = at; deed = deed.Netlink (record { op = op.KeyNew; ifindex = None; peer = None; keyconf = Some (conf_with_dirs peer key_id seals opens) }) })
 unfolding serde_json_on_literals key_data
 says_key bytes lanes at opening opening_tail sealing sealing_tail key_id peer lane opens seals text a l below k p ho hs =
     let co = escape_decoded opening ho.key ho.key_read in
@@ -105,9 +101,23 @@ says_key bytes lanes at opening opening_tail sealing sealing_tail key_id peer la
       value = key_data at opening opening_tail sealing sealing_tail key_id peer lane;
       reads = ap read same ∙ reads_compact (key_data at opening opening_tail sealing sealing_tail key_id peer lane) plain (omega arith) (made at opening opening_tail sealing sealing_tail key_id peer lane (omega arith) (omega arith) (omega arith) (omega arith));
       is_line = record {
-        at = rw (le-leb 0 at (omega arith), le-leb at 4294967295 (omega arith)) refl;
-        lane = rw (le-leb 0 lane (omega arith), le-leb lane 4294967295 (omega arith)) refl;
+        at = (refl, omega arith);
+        lane = (refl, omega arith);
         below = below;
-        deed = record { form = form.Netlink op.KeyNew; word = refl; has = rw (conf_read opening opening_tail sealing sealing_tail opens seals key_id peer ho hs k p) refl };
+        word = refl;
+        deed = record {
+          only = refl;
+          ifindex = tt;
+          peer = tt;
+          keyconf = record {
+            only = refl;
+            peer_id = (refl, omega arith);
+            slot = refl;
+            key_id = (refl, omega arith);
+            cipher = refl;
+            encrypt = dir_read sealing sealing_tail seals hs;
+            decrypt = dir_read opening opening_tail opens ho;
+          };
+        };
       };
     }

@@ -1,5 +1,5 @@
--- A line that bytes say is as short as the grammar says.
-pub mod Fitting
+-- Facts on what objects have under names.
+pub mod Has
 -- Values of plain numbers and texts: their compact text reads as the value.
 pub mod PlainText
 -- The compact text of a line that sends a packet says the line.
@@ -16,3 +16,11 @@ pub mod HexLanes
 pub mod Names
 -- Facts on options and answers that the grammar's parts share.
 pub mod Options
+-- The words of lines tell their forms apart.
+pub mod Words
+-- A line that bytes say is as short as the grammar says.
+pub mod Fitting
+-- Bytes say one line at most.
+pub mod Unique
+-- The text of an object goes on name by name.
+pub mod Putting

@@ -3,7 +3,6 @@ use Rattle.std.proofs.Common.{◌≡◌, ◌∙◌, ℕ, ◌<◌, ◌≤◌, ◌
 use Rattle.std.specs.Prelude.{decimal}
 use Rattle.std.specs.Str.{IsUtf8}
 use Rattle.std.specs.Net.Grammar.{IsDotted}
-use Rattle.std.proofs.lemmas.Bool.{le-leb}
 use Rattle.json.specs.Print.{escape, quoted}
 use Rattle.json.proofs.Printed.Utf8.{IsUtf8-are_ascii}
 use Rattle.serde_json.specs.Read.{read, of_json}
@@ -13,9 +12,8 @@ use Rattle.serde_json.proofs.OnLiterals.{serde_json_on_literals}
 use Rattle.ov_model.specs.declared.line.Deed.TheVariants as deed
 use Rattle.ov_model.specs.declared.netlink.NlOp.TheVariants as op
 use Rattle.ov_model.specs.declared.netlink.NlPeer.{NlPeer}
-use Rattle.ov_line.specs.declared.grammar.Form.TheVariants as form
 use Rattle.ov_line.specs.Compact.{new_text, new_data, peer_data}
-use Rattle.ov_line.specs.Grammar.{Says, no_attributes}
+use Rattle.ov_line.specs.Grammar.{Says}
 use Rattle.ov_line.proofs.PlainText.{IsPlain, text_utf8, reads_compact, string_text, escape_dotted}
 
 -- The text in its pieces, as they are taken off its front.
@@ -51,15 +49,19 @@ plain_data at lane id remote port vpn a l i p r v =
     let peer : IsPlain (peer_data id remote port vpn) = (IsUtf8-are_ascii _ refl, i, (IsUtf8-are_ascii _ refl, r, (IsUtf8-are_ascii _ refl, p, (IsUtf8-are_ascii _ refl, v, tt)))) in
     (IsUtf8-are_ascii _ refl, a, (IsUtf8-are_ascii _ refl, IsUtf8-are_ascii _ refl, (IsUtf8-are_ascii _ refl, l, (IsUtf8-are_ascii _ refl, peer, tt))))
 
+-- A peer with no attribute given.
+abbrev no_attributes : NlPeer
+no_attributes = record { id = None; remote_ipv4 = None; remote_ipv6 = None; remote_ipv6_scope_id = None; remote_port = None; socket = None; socket_netnsid = None; vpn_ipv4 = None; vpn_ipv6 = None; local_ipv4 = None; local_ipv6 = None; local_port = None; keepalive_interval = None; keepalive_timeout = None }
+
 -- The peer that the line makes.
 abbrev pub peer_of : ℕ → List ℕ → ℕ → List ℕ → NlPeer
 peer_of id remote port vpn = record no_attributes { id = Some id; remote_ipv4 = Some remote; remote_port = Some port; vpn_ipv4 = Some vpn }
 
 pub says_new : (bytes : List ℕ) (lanes at lane id : ℕ) (remote : List ℕ) (port : ℕ) (vpn far near : List ℕ) → bytes ≡ new_text at lane id remote port vpn → at < 2 ^ 32 → lane < 2 ^ 32 → lane < lanes
-    → id ≤ 16777215 → 1 ≤ port → port ≤ 65535 → IsDotted remote far → IsDotted vpn near
+    → id < 2 ^ 32 → port < 2 ^ 32 → IsDotted remote far → IsDotted vpn near
     → Says bytes lanes (record { lane = lane; at = at; deed = deed.Netlink (record { op = op.PeerNew; ifindex = None; peer = Some (peer_of id far port near); keyconf = None }) })
 unfolding serde_json_on_literals new_data
-says_new bytes lanes at lane id remote port vpn far near text a l below i some p there here =
+says_new bytes lanes at lane id remote port vpn far near text a l below i p there here =
     let r = escape_dotted remote far there in
     let v = escape_dotted vpn near here in
     let same : bytes ≡ compact_text (new_data at lane id remote port vpn) = text ∙ text_is at lane id remote port vpn r.0 v.0 in
@@ -69,31 +71,31 @@ says_new bytes lanes at lane id remote port vpn far near text a l below i some p
       value = new_data at lane id remote port vpn;
       reads = ap read same ∙ reads_compact (new_data at lane id remote port vpn) plain (omega arith) (made at lane id remote port vpn (omega arith) (omega arith) (omega arith) (omega arith));
       is_line = record {
-        at = rw (le-leb 0 at (omega arith), le-leb at 4294967295 (omega arith)) refl;
-        lane = rw (le-leb 0 lane (omega arith), le-leb lane 4294967295 (omega arith)) refl;
+        at = (refl, omega arith);
+        lane = (refl, omega arith);
         below = below;
+        word = refl;
         deed = record {
-          form = form.Netlink op.PeerNew;
-          word = refl;
-          has = record {
+          only = refl;
+          ifindex = tt;
+          peer = record {
             only = refl;
-            object = peer_data id remote port vpn;
-            found = refl;
-            given = peer_of id far port near;
-            peer_is = record {
-              only = refl;
-              id = id;
-              remote = far;
-              port = port;
-              vpn = near;
-              id_given = rw (le-leb 0 id (omega arith), le-leb id 16777215 i) refl;
-              remote_given = record { text = remote; given = refl; dotted = there };
-              port_given = rw (le-leb 1 port some, le-leb port 65535 p) refl;
-              vpn_given = record { text = vpn; given = refl; dotted = here };
-              peer = refl;
-            };
-            message = refl;
+            id = (refl, omega arith);
+            remote_ipv4 = record { text = remote; given = refl; dotted = there };
+            remote_ipv6 = tt;
+            remote_ipv6_scope_id = tt;
+            remote_port = (refl, omega arith);
+            socket = tt;
+            socket_netnsid = tt;
+            vpn_ipv4 = record { text = vpn; given = refl; dotted = here };
+            vpn_ipv6 = tt;
+            local_ipv4 = tt;
+            local_ipv6 = tt;
+            local_port = tt;
+            keepalive_interval = tt;
+            keepalive_timeout = tt;
           };
+          keyconf = tt;
         };
       };
     }

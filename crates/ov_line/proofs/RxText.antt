@@ -3,7 +3,6 @@ use Rattle.std.proofs.Common.{◌≡◌, ◌∙◌, ℕ, ◌<◌, ◌≤◌, ◌
 use Rattle.std.specs.Prelude.{decimal}
 use Rattle.std.specs.Str.{IsUtf8}
 use Rattle.std.specs.Net.Grammar.{IsDotted}
-use Rattle.std.proofs.lemmas.Bool.{le-leb}
 use Rattle.json.specs.Print.{escape, quoted}
 use Rattle.json.proofs.Printed.Utf8.{IsUtf8-are_ascii}
 use Rattle.serde_json.specs.Read.{read, of_json}
@@ -13,7 +12,6 @@ use Rattle.serde_json.proofs.OnLiterals.{serde_json_on_literals}
 use Rattle.hex.specs.Hex.{decode_of}
 use Rattle.ov_base.specs.declared.address.Addr.TheVariants.{V4}
 use Rattle.ov_model.specs.declared.line.Deed.TheVariants as deed
-use Rattle.ov_line.specs.declared.grammar.Form.TheVariants as form
 use Rattle.ov_line.specs.Compact.{rx_text, rx_data, from_data}
 use Rattle.ov_line.specs.Grammar.{Says}
 use Rattle.ov_line.proofs.PlainText.{IsPlain, text_utf8, reads_compact, string_text, escape_decoded, escape_dotted}
@@ -61,21 +59,14 @@ says_rx bytes lanes at digits addr port lane datagram octets text a l below p do
       value = rx_data at digits addr port lane;
       reads = ap read same ∙ reads_compact (rx_data at digits addr port lane) plain (omega arith) (made at digits addr port lane (omega arith) (omega arith) (omega arith));
       is_line = record {
-        at = rw (le-leb 0 at (omega arith), le-leb at 4294967295 (omega arith)) refl;
-        lane = rw (le-leb 0 lane (omega arith), le-leb lane 4294967295 (omega arith)) refl;
+        at = (refl, omega arith);
+        lane = (refl, omega arith);
         below = below;
+        word = refl;
         deed = record {
-          form = form.Rx;
-          word = refl;
-          has = record {
-            only = refl;
-            sender = record {
-              object = from_data addr port;
-              found = refl;
-              transport = record { only = refl; text = addr; given = refl; addr = dotted; port = rw (le-leb 0 port (omega arith), le-leb port 65535 p) refl };
-            };
-            bytes = rw (decoded, le-leb (length datagram) 65507 short) refl;
-          };
+          only = refl;
+          sender = record { only = refl; addr = record { text = addr; given = refl; dotted = dotted }; port = (refl, p) };
+          datagram_is = record { text = digits; given = refl; digits = decoded; short = short };
         };
       };
     }

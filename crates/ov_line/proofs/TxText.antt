@@ -2,7 +2,6 @@
 use Rattle.std.proofs.Common.{◌≡◌, ◌∙◌, ℕ, ◌<◌, ◌≤◌, ◌^◌, List, [], ◌∷◌, ◌++◌, length, codes, Some, Ok, refl, sym, ap, subst, append_assoc, arith}
 use Rattle.std.specs.Prelude.{decimal}
 use Rattle.std.specs.Str.{IsUtf8}
-use Rattle.std.proofs.lemmas.Bool.{le-leb}
 use Rattle.json.specs.Print.{escape}
 use Rattle.json.proofs.Printed.Utf8.{IsUtf8-are_ascii}
 use Rattle.serde_json.specs.Read.{read, of_json}
@@ -11,7 +10,6 @@ use Rattle.serde_json.proofs.Numbers.{number_of-decimal}
 use Rattle.serde_json.proofs.OnLiterals.{serde_json_on_literals}
 use Rattle.hex.specs.Hex.{decode_of}
 use Rattle.ov_model.specs.declared.line.Deed.TheVariants as deed
-use Rattle.ov_line.specs.declared.grammar.Form.TheVariants as form
 use Rattle.ov_line.specs.Compact.{tx_text, tx_data}
 use Rattle.ov_line.specs.Grammar.{Says}
 use Rattle.ov_line.proofs.PlainText.{IsPlain, text_utf8, reads_compact, escape_decoded}
@@ -47,9 +45,10 @@ says_tx bytes lanes at lane digits packet text a l below decoded short =
       value = tx_data at lane digits;
       reads = ap read same ∙ reads_compact (tx_data at lane digits) plain (omega arith) (made at lane digits (omega arith) (omega arith));
       is_line = record {
-        at = rw (le-leb 0 at (omega arith), le-leb at 4294967295 (omega arith)) refl;
-        lane = rw (le-leb 0 lane (omega arith), le-leb lane 4294967295 (omega arith)) refl;
+        at = (refl, omega arith);
+        lane = (refl, omega arith);
         below = below;
-        deed = record { form = form.Tx; word = refl; has = rw (decoded, le-leb (length packet) 65483 short) refl };
+        word = refl;
+        deed = record { only = refl; packet_is = record { text = digits; given = refl; digits = decoded; short = short } };
       };
     }

@@ -1,8 +1,8 @@
 -- The texts of lines as programs mostly write them: no space, the names in ascending order, numbers in
 -- decimal. They say what the first look at a line takes for one; which line the bytes are is the grammar's.
-use Rattle.std.specs.Prelude.{◌≡◌, ℕ, List, ◌++◌, length, codes, decimal, true, Some, Ok}
+use Rattle.std.specs.Prelude.{◌≡◌, ◌≤◌, ℕ, List, ◌++◌, length, codes, decimal, Some, Ok}
 use Rattle.serde_json.specs.Data.{Data, string, number, unsigned, object, no_members, member}
-use Rattle.ov_line.specs.Keyconf.{is_key_length, is_tail_length}
+use Rattle.ov_line.specs.Grammar.{most_key_bytes}
 use Rattle.ov_model.specs.declared.netlink.NlKeyDir.{NlKeyDir}
 use Rattle.hex.specs.Hex.{decode_of}
 
@@ -87,12 +87,12 @@ key_data at opening opening_tail sealing sealing_tail key_id peer lane = object
     (member (codes "keyconf") (conf_data opening opening_tail sealing sealing_tail key_id peer)
     (member (codes "lane") (number (unsigned lane)) no_members))))
 
--- A direction of as many bytes as keys and nonce tails have, by its digits.
-pub record IsDir (key_digits tail_digits : List ℕ) (dir : NlKeyDir) : Type 0 where
+-- A direction of at most as many bytes as a line may give, by its digits.
+pub record IsDirText (key_digits tail_digits : List ℕ) (dir : NlKeyDir) : Type 0 where
   pub key : List ℕ
   pub tail : List ℕ
   pub key_read : decode_of key_digits ≡ Ok key
   pub tail_read : decode_of tail_digits ≡ Ok tail
-  pub key_length : is_key_length (length key) ≡ true
-  pub tail_length : is_tail_length (length tail) ≡ true
+  pub key_short : length key ≤ most_key_bytes
+  pub tail_short : length tail ≤ most_key_bytes
   pub dir_is : dir ≡ record { cipher_key = Some key; nonce_tail = Some tail }

@@ -1,143 +1,201 @@
 -- The grammar of a script's lines: which line some bytes say.
-use Rattle.std.specs.Prelude.{◌≡◌, ℕ, ◌<◌, nat_le, List, [], ◌∷◌, codes, Bool, if◌then◌else◌, IsTrue, Option, Some, None, option_map, option_and_then}
-use Rattle.std.specs.Str.{IsUtf8, bytes_eq}
-use Rattle.serde_json.specs.Data.{Data}
+use Rattle.std.specs.Prelude.{⊤, ◌≡◌, ◌<◌, ℕ, List, [], ◌∷◌, codes, IsTrue, Some, Result, Ok, Err}
+use Rattle.std.specs.Str.{IsUtf8}
+use Rattle.serde_json.specs.Data.{Data, string, number, unsigned}
 use Rattle.serde_json.specs.Read.{read}
-use Rattle.serde_json.specs.Find.{get}
 use Rattle.ov_base.specs.declared.address.Transport.{Transport}
+use Rattle.ov_model.specs.Limits.{longest_packet, longest_datagram}
+use Rattle.ov_model.specs.declared.ident.PeerId.{PeerId}
+use Rattle.ov_model.specs.declared.command.Slot.{Slot}
+use Rattle.ov_model.specs.declared.command.Slot.TheVariants as slot
+use Rattle.ov_model.specs.declared.command.Reason.{Reason}
+use Rattle.ov_model.specs.declared.command.Reason.TheVariants as reason
 use Rattle.ov_model.specs.declared.line.Line.{Line}
 use Rattle.ov_model.specs.declared.line.Deed.{Deed}
 use Rattle.ov_model.specs.declared.line.Deed.TheVariants as deed
+use Rattle.ov_model.specs.declared.netlink.Cipher.{Cipher}
+use Rattle.ov_model.specs.declared.netlink.Cipher.TheVariants as cipher
 use Rattle.ov_model.specs.declared.netlink.NlOp.{NlOp}
 use Rattle.ov_model.specs.declared.netlink.NlOp.TheVariants as op
 use Rattle.ov_model.specs.declared.netlink.NlPeer.{NlPeer}
+use Rattle.ov_model.specs.declared.netlink.NlKeyDir.{NlKeyDir}
 use Rattle.ov_model.specs.declared.netlink.NlKeyConf.{NlKeyConf}
 use Rattle.ov_model.specs.declared.netlink.NlMessage.{NlMessage}
-use Rattle.ov_line.specs.declared.grammar.Form.{Form}
-use Rattle.ov_line.specs.declared.grammar.Form.TheVariants as form
-use Rattle.ov_line.specs.Values.{number_at, text_at, sized_at, IsAddressAt, IsTransport, has_only}
-use Rattle.ov_line.specs.Keyconf.{conf_of}
+use Rattle.ov_line.specs.Values.{Has, IsNumber, most_number, IsHex, IsIpv4, IsIpv6, IsAddr, IsWord, has_only}
 
--- A peer with no attribute given.
-abbrev pub no_attributes : NlPeer
-no_attributes = record { id = None; remote_ipv4 = None; remote_ipv6 = None; remote_ipv6_scope_id = None; remote_port = None; socket = None; socket_netnsid = None; vpn_ipv4 = None; vpn_ipv6 = None; local_ipv4 = None; local_ipv6 = None; local_port = None; keepalive_interval = None; keepalive_timeout = None }
+-- ---- words
 
--- A peer's id: 24 bits (attribute `id` of the netlink family `ovpn`).
-abbrev pub id_at : Data → Option ℕ
-id_at d = number_at (codes "id") 0 16777215 d
+-- The operations of the netlink family, by their words.
+abbrev pub op_word : NlOp → List ℕ
+op_word op.PeerNew = codes "peer-new"
+op_word op.PeerSet = codes "peer-set"
+op_word op.PeerGet = codes "peer-get"
+op_word op.PeerDump = codes "peer-dump"
+op_word op.PeerDel = codes "peer-del"
+op_word op.KeyNew = codes "key-new"
+op_word op.KeyGet = codes "key-get"
+op_word op.KeySwap = codes "key-swap"
+op_word op.KeyDel = codes "key-del"
 
--- A UDP port; 0 is none (attribute `remote-port`).
-abbrev pub port_at : Data → Option ℕ
-port_at d = number_at (codes "remote-port") 1 65535 d
+-- What a line asks for, by its word.
+abbrev pub deed_word : Deed → List ℕ
+deed_word (deed.Netlink m) = op_word m.op
+deed_word (deed.Tx packet) = codes "tx"
+deed_word (deed.Rx from datagram) = codes "rx"
+deed_word (deed.Lost id reason) = codes "lost"
 
--- The `peer` of peer-new: exactly an id, the transport that it is reached by, and its address inside
--- the tunnel.
-pub record IsNewPeer (d : Data) (p : NlPeer) : Type 0 where
-  pub only : IsTrue (has_only (codes "id" ∷ codes "remote-ipv4" ∷ codes "remote-port" ∷ codes "vpn-ipv4" ∷ []) d)
-  pub id : ℕ
-  pub remote : List ℕ
-  pub port : ℕ
-  pub vpn : List ℕ
-  pub id_given : id_at d ≡ Some id
-  pub remote_given : IsAddressAt (codes "remote-ipv4") d remote
-  pub port_given : port_at d ≡ Some port
-  pub vpn_given : IsAddressAt (codes "vpn-ipv4") d vpn
-  pub peer : p ≡ record no_attributes { id = Some id; remote_ipv4 = Some remote; remote_port = Some port; vpn_ipv4 = Some vpn }
+-- The slots of a peer.
+abbrev pub slot_word : Slot → List ℕ
+slot_word slot.Primary = codes "primary"
+slot_word slot.Secondary = codes "secondary"
 
--- The `peer` of peer-get and peer-del: exactly an id.
-abbrev pub named_peer : Data → Option NlPeer
-named_peer d = if has_only (codes "id" ∷ []) d then option_map (λ id. record no_attributes { id = Some id }) (id_at d) else None
+-- The ciphers of the family.
+abbrev pub cipher_word : Cipher → List ℕ
+cipher_word cipher.NoCipher = codes "none"
+cipher_word cipher.AesGcm = codes "aes-gcm"
+cipher_word cipher.ChaCha20Poly1305 = codes "chacha20-poly1305"
 
--- The `peer` of an operation on peers.
-abbrev pub IsPeer : NlOp → Data → NlPeer → Type 0
-IsPeer op.PeerNew d p = IsNewPeer d p
-IsPeer op.PeerGet d p = named_peer d ≡ Some p
-IsPeer op.PeerDel d p = named_peer d ≡ Some p
-IsPeer op.KeyNew d p = ⊥
+-- ---- names
 
--- A line that asks for an operation on peers: its object stands under `peer`. It has no other names, so
--- it names no device.
-pub record IsPeerMessage (o : NlOp) (d : Data) (m : NlMessage) : Type 0 where
-  pub only : IsTrue (has_only (codes "at" ∷ codes "do" ∷ codes "lane" ∷ codes "peer" ∷ []) d)
-  pub object : Data
-  pub found : get (codes "peer") d ≡ Some object
-  pub given : NlPeer
-  pub peer_is : IsPeer o object given
-  pub message : m ≡ record { op = o; ifindex = None; peer = Some given; keyconf = None }
+-- The names of a line that asks for an operation on one peer, or on a key.
+abbrev pub peer_line : List (List ℕ)
+peer_line = codes "at" ∷ codes "do" ∷ codes "ifindex" ∷ codes "lane" ∷ codes "peer" ∷ []
 
--- The message of a new key.
-abbrev pub key_message_of : NlKeyConf → NlMessage
-key_message_of c = record { op = op.KeyNew; ifindex = None; peer = None; keyconf = Some c }
+abbrev pub key_line : List (List ℕ)
+key_line = codes "at" ∷ codes "do" ∷ codes "ifindex" ∷ codes "keyconf" ∷ codes "lane" ∷ []
 
--- A line that asks for a new key: its object stands under `keyconf`, and it has no other names.
-abbrev pub key_message : Data → Option NlMessage
-key_message d =
-    if has_only (codes "at" ∷ codes "do" ∷ codes "keyconf" ∷ codes "lane" ∷ []) d
-    then option_map key_message_of (option_and_then conf_of (get (codes "keyconf") d)) else None
+-- The names of a line that asks for an operation.
+abbrev pub message_names : NlOp → List (List ℕ)
+message_names op.PeerNew = peer_line
+message_names op.PeerSet = peer_line
+message_names op.PeerGet = peer_line
+message_names op.PeerDump = codes "at" ∷ codes "do" ∷ codes "ifindex" ∷ codes "lane" ∷ []
+message_names op.PeerDel = peer_line
+message_names op.KeyNew = key_line
+message_names op.KeyGet = key_line
+message_names op.KeySwap = key_line
+message_names op.KeyDel = key_line
 
--- The most bytes of an inner packet to be sent: 65,483, so that with 24 bytes of head and tag it fits into
--- a UDP datagram.
-abbrev pub is_packet_length : ℕ → Bool
-is_packet_length n = nat_le n 65483
+-- The names inside `peer`, by the operation. Those of peer-set are those of peer-new without the socket's.
+abbrev pub peer_names : NlOp → List (List ℕ)
+peer_names op.PeerNew =
+    codes "id" ∷ codes "keepalive-interval" ∷ codes "keepalive-timeout" ∷ codes "local-ipv4" ∷ codes "local-ipv6" ∷ codes "local-port" ∷ codes "remote-ipv4"
+    ∷ codes "remote-ipv6" ∷ codes "remote-ipv6-scope-id" ∷ codes "remote-port" ∷ codes "socket" ∷ codes "socket-netnsid" ∷ codes "vpn-ipv4" ∷ codes "vpn-ipv6" ∷ []
+peer_names op.PeerSet =
+    codes "id" ∷ codes "keepalive-interval" ∷ codes "keepalive-timeout" ∷ codes "local-ipv4" ∷ codes "local-ipv6" ∷ codes "local-port" ∷ codes "remote-ipv4"
+    ∷ codes "remote-ipv6" ∷ codes "remote-ipv6-scope-id" ∷ codes "remote-port" ∷ codes "vpn-ipv4" ∷ codes "vpn-ipv6" ∷ []
+peer_names op.PeerGet = codes "id" ∷ []
+peer_names op.PeerDel = codes "id" ∷ []
+peer_names _ = []
 
--- A line that sends an inner packet: its digits stand under `packet`, and it has no other names.
-abbrev pub tx_packet : Data → Option (List ℕ)
-tx_packet d = if has_only (codes "at" ∷ codes "do" ∷ codes "lane" ∷ codes "packet" ∷ []) d then sized_at is_packet_length (codes "packet") d else None
+-- The names inside `keyconf`, by the operation.
+abbrev pub conf_names : NlOp → List (List ℕ)
+conf_names op.KeyNew = codes "cipher-alg" ∷ codes "decrypt-dir" ∷ codes "encrypt-dir" ∷ codes "key-id" ∷ codes "peer-id" ∷ codes "slot" ∷ []
+conf_names op.KeyGet = codes "peer-id" ∷ codes "slot" ∷ []
+conf_names op.KeySwap = codes "peer-id" ∷ []
+conf_names op.KeyDel = codes "peer-id" ∷ codes "slot" ∷ []
+conf_names _ = []
 
--- The most bytes of a received datagram: 65,507, the most of a UDP datagram over IPv4.
-abbrev pub is_datagram_length : ℕ → Bool
-is_datagram_length n = nat_le n 65507
+-- ---- objects
 
--- The transport that a datagram came from stands under `from`.
-pub record IsFrom (d : Data) (from : Transport) : Type 0 where
-  pub object : Data
-  pub found : get (codes "from") d ≡ Some object
-  pub transport : IsTransport object from
+-- The attributes of a peer, of which these names may stand there.
+pub record IsPeer (names : List (List ℕ)) (d : Data) (p : NlPeer) : Type 0 where
+  pub only : IsTrue (has_only names d)
+  pub id : Has (IsNumber most_number) (codes "id") d p.id
+  pub remote_ipv4 : Has IsIpv4 (codes "remote-ipv4") d p.remote_ipv4
+  pub remote_ipv6 : Has IsIpv6 (codes "remote-ipv6") d p.remote_ipv6
+  pub remote_ipv6_scope_id : Has (IsNumber most_number) (codes "remote-ipv6-scope-id") d p.remote_ipv6_scope_id
+  pub remote_port : Has (IsNumber most_number) (codes "remote-port") d p.remote_port
+  pub socket : Has (IsNumber most_number) (codes "socket") d p.socket
+  pub socket_netnsid : Has (IsNumber most_number) (codes "socket-netnsid") d p.socket_netnsid
+  pub vpn_ipv4 : Has IsIpv4 (codes "vpn-ipv4") d p.vpn_ipv4
+  pub vpn_ipv6 : Has IsIpv6 (codes "vpn-ipv6") d p.vpn_ipv6
+  pub local_ipv4 : Has IsIpv4 (codes "local-ipv4") d p.local_ipv4
+  pub local_ipv6 : Has IsIpv6 (codes "local-ipv6") d p.local_ipv6
+  pub local_port : Has (IsNumber most_number) (codes "local-port") d p.local_port
+  pub keepalive_interval : Has (IsNumber most_number) (codes "keepalive-interval") d p.keepalive_interval
+  pub keepalive_timeout : Has (IsNumber most_number) (codes "keepalive-timeout") d p.keepalive_timeout
 
--- A line by which a datagram comes: where from, and its digits, and it has no other names.
-pub record IsReceipt (d : Data) (from : Transport) (datagram : List ℕ) : Type 0 where
+-- The most bytes of a key or of a nonce's tail that a line may give. Which lengths are right is not asked here.
+abbrev pub most_key_bytes : ℕ
+most_key_bytes = 256
+
+-- One direction of a key.
+pub record IsDir (d : Data) (dir : NlKeyDir) : Type 0 where
+  pub only : IsTrue (has_only (codes "cipher-key" ∷ codes "nonce-tail" ∷ []) d)
+  pub cipher_key : Has (IsHex most_key_bytes) (codes "cipher-key") d dir.cipher_key
+  pub nonce_tail : Has (IsHex most_key_bytes) (codes "nonce-tail") d dir.nonce_tail
+
+-- The attributes of a key, of which these names may stand there.
+pub record IsConf (names : List (List ℕ)) (d : Data) (k : NlKeyConf) : Type 0 where
+  pub only : IsTrue (has_only names d)
+  pub peer_id : Has (IsNumber most_number) (codes "peer-id") d k.peer_id
+  pub slot : Has (IsWord slot_word) (codes "slot") d k.slot
+  pub key_id : Has (IsNumber most_number) (codes "key-id") d k.key_id
+  pub cipher : Has (IsWord cipher_word) (codes "cipher-alg") d k.cipher
+  pub encrypt : Has IsDir (codes "encrypt-dir") d k.encrypt
+  pub decrypt : Has IsDir (codes "decrypt-dir") d k.decrypt
+
+-- A transport: an address and a UDP port, both needed.
+pub record IsTransport (d : Data) (t : Transport) : Type 0 where
+  pub only : IsTrue (has_only (codes "addr" ∷ codes "port" ∷ []) d)
+  pub addr : Has IsAddr (codes "addr") d (Some t.addr)
+  pub port : Has (IsNumber 65535) (codes "port") d (Some t.port)
+
+-- A peer's id: a number of 24 bits.
+abbrev pub IsId : Data → PeerId → Type 0
+IsId d id = d ≡ number (unsigned id.number)
+
+-- Why a transport is lost: of the reasons for a removal these two.
+abbrev pub IsLoss : Data → Reason → Type 0
+IsLoss d reason.TransportError = d ≡ string (codes "transport-error")
+IsLoss d reason.TransportDisconnect = d ≡ string (codes "transport-disconnect")
+IsLoss d _ = ⊥
+
+-- A peer whose transport is lost: its id and the reason, both needed.
+pub record IsLost (d : Data) (lost : PeerId × Reason) : Type 0 where
+  pub only : IsTrue (has_only (codes "del-reason" ∷ codes "id" ∷ []) d)
+  pub id : Has IsId (codes "id") d (Some lost.0)
+  pub reason : Has IsLoss (codes "del-reason") d (Some lost.1)
+
+-- ---- lines
+
+-- A line that asks for an operation: the device and what the operation is asked of, each where it is given.
+pub record IsMessage (d : Data) (m : NlMessage) : Type 0 where
+  pub only : IsTrue (has_only (message_names m.op) d)
+  pub ifindex : Has (IsNumber most_number) (codes "ifindex") d m.ifindex
+  pub peer : Has (IsPeer (peer_names m.op)) (codes "peer") d m.peer
+  pub keyconf : Has (IsConf (conf_names m.op)) (codes "keyconf") d m.keyconf
+
+-- A line that sends an inner packet.
+pub record IsTx (d : Data) (packet : List ℕ) : Type 0 where
+  pub only : IsTrue (has_only (codes "at" ∷ codes "do" ∷ codes "lane" ∷ codes "packet" ∷ []) d)
+  pub packet_is : Has (IsHex longest_packet) (codes "packet") d (Some packet)
+
+-- A line by which a datagram comes.
+pub record IsRx (d : Data) (from : Transport) (datagram : List ℕ) : Type 0 where
   pub only : IsTrue (has_only (codes "at" ∷ codes "datagram" ∷ codes "do" ∷ codes "from" ∷ codes "lane" ∷ []) d)
-  pub sender : IsFrom d from
-  pub bytes : sized_at is_datagram_length (codes "datagram") d ≡ Some datagram
+  pub sender : Has IsTransport (codes "from") d (Some from)
+  pub datagram_is : Has (IsHex longest_datagram) (codes "datagram") d (Some datagram)
 
--- The form of a line, by its word: the operations of the netlink family, a packet that is sent, and a
--- datagram that is received.
-abbrev pub form_of : List ℕ → Option Form
-form_of word =
-    if bytes_eq word (codes "peer-new") then Some (form.Netlink op.PeerNew) else
-    (if bytes_eq word (codes "peer-get") then Some (form.Netlink op.PeerGet) else
-    (if bytes_eq word (codes "peer-del") then Some (form.Netlink op.PeerDel) else
-    (if bytes_eq word (codes "key-new") then Some (form.Netlink op.KeyNew) else
-    (if bytes_eq word (codes "tx") then Some form.Tx else
-    (if bytes_eq word (codes "rx") then Some form.Rx else None)))))
+-- A line by which a peer's transport is lost.
+pub record IsLoser (d : Data) (id : PeerId) (why : Reason) : Type 0 where
+  pub only : IsTrue (has_only (codes "at" ∷ codes "do" ∷ codes "lane" ∷ codes "peer" ∷ []) d)
+  pub peer : Has IsLost (codes "peer") d (Some (id, why))
 
--- The form of a line, by the word under `do`.
-abbrev pub form_at : Data → Option Form
-form_at d = option_and_then form_of (text_at (codes "do") d)
+-- What a line asks for, with the names that belong to it.
+abbrev pub IsDeed : Data → Deed → Type 0
+IsDeed d (deed.Netlink m) = IsMessage d m
+IsDeed d (deed.Tx packet) = IsTx d packet
+IsDeed d (deed.Rx from datagram) = IsRx d from datagram
+IsDeed d (deed.Lost id why) = IsLoser d id why
 
--- What a line that asks for an operation says, with the names that belong to it.
-abbrev pub IsMessage : NlOp → Data → NlMessage → Type 0
-IsMessage op.KeyNew d m = key_message d ≡ Some m
-IsMessage o d m = IsPeerMessage o d m
-
--- What a line of a form asks for, with the names that belong to it.
-abbrev pub HasForm : Form → Data → Deed → Type 0
-HasForm (form.Netlink o) d (deed.Netlink m) = IsMessage o d m
-HasForm form.Tx d (deed.Tx packet) = tx_packet d ≡ Some packet
-HasForm form.Rx d (deed.Rx from datagram) = IsReceipt d from datagram
-HasForm _ d _ = ⊥
-
--- What a line asks for.
-pub record IsDeed (d : Data) (asked : Deed) : Type 0 where
-  pub form : Form
-  pub word : form_at d ≡ Some form
-  pub has : HasForm form d asked
-
--- A value as a line: the moment, the lane, and what the line asks for.
+-- A value as a line: the moment, the lane, and what the line asks for, by its word and its other names.
 pub record IsLine (lanes : ℕ) (d : Data) (line : Line) : Type 0 where
-  pub at : number_at (codes "at") 0 4294967295 d ≡ Some line.at
-  pub lane : number_at (codes "lane") 0 4294967295 d ≡ Some line.lane
+  pub at : Has (IsNumber most_number) (codes "at") d (Some line.at)
+  pub lane : Has (IsNumber most_number) (codes "lane") d (Some line.lane)
   pub below : line.lane < lanes
+  pub word : Has (IsWord deed_word) (codes "do") d (Some line.deed)
   pub deed : IsDeed d line.deed
 
 -- The bytes of one line, without a line end, say `line`: they are UTF-8 and one JSON value (RFC 8259

@@ -1,5 +1,7 @@
 pub mod Values
-pub mod Keyconf
 pub mod Grammar
+pub mod Outcome
+pub mod Forms
+pub mod Text
 pub mod Compact
 pub mod Digits

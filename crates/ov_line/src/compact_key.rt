@@ -7,9 +7,9 @@ ghost use Rattle.ov_line.specs.Compact as spec;
 ghost use Rattle.ov_line.specs.Grammar.{Says};
 
 use crate::digits::bytes_of;
+use crate::keyconf::MOST_KEY_BYTES;
 use crate::parts::{after, before, number, until_quote};
 use ov_base::{Boxed, Memory};
-use ov_model::ident::MOST_PEER_ID;
 use ov_model::{Cipher, Deed, Line, NlKeyConf, NlKeyDir, NlMessage, NlOp, Slot};
 use std::alloc::Global;
 
@@ -65,10 +65,9 @@ fn key_parts(line: &[u8]) -> Option<Parts>
     })
 }
 
-/// The bytes of a direction; `None` where its digits are of none, or not of as many as a key and a nonce
-/// tail have.
+/// The bytes of a direction; `None` where its digits are of none, or of more than a line may give.
 fn dir_of(alloc: Global, key: &[u8], tail: &[u8]) -> Result<Option<NlKeyDir>, Memory>
-    ensures { IfOk result (λ found. IfSome found (λ dir. spec.IsDir key.now tail.now dir)) }
+    ensures { IfOk result (λ found. IfSome found (λ dir. spec.IsDirText key.now tail.now dir)) }
 {
     let Some(key) = bytes_of(alloc, key)? else {
         return Ok(None);
@@ -76,13 +75,13 @@ fn dir_of(alloc: Global, key: &[u8], tail: &[u8]) -> Result<Option<NlKeyDir>, Me
     let Some(tail) = bytes_of(alloc, tail)? else {
         return Ok(None);
     };
-    match (key.len(), tail.len()) {
-        (16 | 24 | 32, 8) => Ok(Some(NlKeyDir {
-            cipher_key: Some(key),
-            nonce_tail: Some(tail),
-        })),
-        _ => Ok(None),
+    if key.len() > MOST_KEY_BYTES || tail.len() > MOST_KEY_BYTES {
+        return Ok(None);
     }
+    Ok(Some(NlKeyDir {
+        cipher_key: Some(key),
+        nonce_tail: Some(tail),
+    }))
 }
 
 /// The line that makes a key, where the bytes are its compact text.
@@ -92,7 +91,7 @@ pub fn key_line(alloc: Global, line: &[u8], lanes: u32) -> Result<Option<Line>, 
     let Some(parts) = key_parts(line) else {
         return Ok(None);
     };
-    if parts.lane >= lanes || parts.key_id > 7 || parts.peer > MOST_PEER_ID {
+    if parts.lane >= lanes {
         return Ok(None);
     }
     let Some(encrypt) = dir_of(alloc, parts.sealing.key, parts.sealing.tail)? else {

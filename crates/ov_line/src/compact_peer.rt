@@ -7,7 +7,6 @@ ghost use Rattle.ov_line.specs.Grammar.{Says};
 
 use crate::parts::{after, before, number, octets_of, until_quote};
 use ov_base::{Boxed, Memory};
-use ov_model::ident::MOST_PEER_ID;
 use ov_model::netlink::NO_ATTRIBUTES;
 use ov_model::{Deed, Line, NlMessage, NlOp, NlPeer};
 use std::alloc::Global;
@@ -54,8 +53,7 @@ pub fn new_line(alloc: Global, line: &[u8], lanes: u32) -> Result<Option<Line>, 
     let (Some(remote), Some(vpn)) = (octets_of(parts.remote), octets_of(parts.vpn)) else {
         return Ok(None);
     };
-    let is_port = 1 <= parts.port && parts.port <= 65_535;
-    if parts.lane >= lanes || parts.id > MOST_PEER_ID || !is_port {
+    if parts.lane >= lanes {
         return Ok(None);
     }
     let peer = NlPeer {

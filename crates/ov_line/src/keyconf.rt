@@ -1,131 +1,137 @@
-//! The object `keyconf` of key-new: exactly its parts, each in its range.
+//! The object `keyconf` of the operations on keys.
 
-ghost use Rattle.std.specs.Prelude.{◌≡◌, Some, None, IfOk, IfErr, codes};
+ghost use Rattle.std.specs.Prelude.{codes, map};
 ghost use Rattle.serde_json.specs.View.{view};
-ghost use Rattle.ov_line.specs.Values.{sized_at};
-ghost use Rattle.ov_line.specs.Keyconf as spec;
+ghost use Rattle.ov_line.specs.Values.{Has, IsWord};
+ghost use Rattle.ov_line.specs.Grammar as spec;
+ghost use Rattle.ov_line.specs.Outcome.{Finds, Reads};
 
 use crate::line::LineStop;
-use crate::member::{bytes_at, has_only, number_at, text_at};
-use ov_base::Octets;
-use ov_model::{Cipher, NlKeyConf, NlKeyDir, Slot};
+use crate::member::{hex_at, number_at, only, text_of};
+use crate::why::{Name, Why};
+use ov_model::{Cipher, NlKeyConf, NlKeyDir, NlOp, Slot};
 use serde_json::Value;
 use std::alloc::Global;
 
-/// The bytes of a key of AES: 16, 24 or 32 (FIPS 197, section 5).
-fn cipher_key(alloc: Global, value: &Value) -> Result<Octets, LineStop>
-    ensures ok { IfOk result (λ key.
-        sized_at spec.is_key_length (codes "cipher-key") (view value.now) ≡ Some key) }
-    ensures bad { IfErr result (λ stop. stop ≡ LineStop.Bad
-        → sized_at spec.is_key_length (codes "cipher-key") (view value.now) ≡ None) }
-{
-    let key = bytes_at(alloc, value, "cipher-key")?;
-    match key.len() {
-        16 | 24 | 32 => Ok(key),
-        _ => Err(LineStop::Bad),
-    }
-}
-
-/// The tail of a nonce: 8 bytes.
-fn nonce_tail(alloc: Global, value: &Value) -> Result<Octets, LineStop>
-    ensures ok { IfOk result (λ tail.
-        sized_at spec.is_tail_length (codes "nonce-tail") (view value.now) ≡ Some tail) }
-    ensures bad { IfErr result (λ stop. stop ≡ LineStop.Bad
-        → sized_at spec.is_tail_length (codes "nonce-tail") (view value.now) ≡ None) }
-{
-    let tail = bytes_at(alloc, value, "nonce-tail")?;
-    if tail.len() != 8 {
-        return Err(LineStop::Bad);
-    }
-    Ok(tail)
-}
+/// The most bytes of a key or of a nonce's tail that a line may give.
+pub const MOST_KEY_BYTES: usize = 256;
 
 /// One direction of a key.
-fn dir_of(alloc: Global, value: &Value) -> Result<NlKeyDir, LineStop>
-    ensures ok { IfOk result (λ dir. spec.dir_of (view value.now) ≡ Some dir) }
-    ensures bad { IfErr result (λ stop. stop ≡ LineStop.Bad → spec.dir_of (view value.now) ≡ None) }
+fn dir_of(alloc: Global, value: &Value, name: &str) -> Result<NlKeyDir, LineStop>
+    ensures { Reads (spec.IsDir (view value.now)) result }
 {
-    if !has_only(value, &["cipher-key", "nonce-tail"]) {
-        return Err(LineStop::Bad);
-    }
-    let key = cipher_key(alloc, value)?;
-    let tail = nonce_tail(alloc, value)?;
+    only(value, name, &["cipher-key", "nonce-tail"])?;
+    let cipher_key = hex_at(alloc, value, "cipher-key", MOST_KEY_BYTES)?;
+    let nonce_tail = hex_at(alloc, value, "nonce-tail", MOST_KEY_BYTES)?;
     Ok(NlKeyDir {
-        cipher_key: Some(key),
-        nonce_tail: Some(tail),
+        cipher_key,
+        nonce_tail,
     })
 }
 
-/// The direction of a key that stands under a name.
-fn dir_at(alloc: Global, value: &Value, name: &str) -> Result<NlKeyDir, LineStop>
-    ensures ok { IfOk result (λ dir. spec.dir_at name.now (view value.now) ≡ Some dir) }
-    ensures bad { IfErr result (λ stop. stop ≡ LineStop.Bad
-        → spec.dir_at name.now (view value.now) ≡ None) }
+/// The direction under a name, where there is one.
+fn dir_at(alloc: Global, value: &Value, name: &str) -> Result<Option<NlKeyDir>, LineStop>
+    ensures { Reads (Has spec.IsDir name.now (view value.now)) result }
 {
     match value.get(name) {
-        Some(dir) => dir_of(alloc, dir),
-        None => Err(LineStop::Bad),
+        Some(found) => Ok(Some(dir_of(alloc, found, name)?)),
+        None => Ok(None),
     }
 }
 
-/// The slot: lines name the primary one.
-fn slot_at(value: &Value) -> Option<Slot>
-    ensures { result ≡ spec.slot_at (view value.now) }
+/// The slot that the value is the word for.
+fn slot_of(value: &Value) -> Result<Slot, Why>
+    ensures { Finds (IsWord spec.slot_word (view value.now)) result }
 {
-    match text_at(value, "slot") {
-        Some("primary") => Some(Slot::Primary),
-        _ => None,
+    match text_of(value, "slot")? {
+        "primary" => Ok(Slot::Primary),
+        "secondary" => Ok(Slot::Secondary),
+        _ => Err(Why::Range(Name::of("slot"))),
     }
 }
 
-/// The cipher: lines name AES-GCM.
-fn cipher_at(value: &Value) -> Option<Cipher>
-    ensures { result ≡ spec.cipher_at (view value.now) }
+/// The slot, where there is one.
+fn slot_at(value: &Value) -> Result<Option<Slot>, Why>
+    ensures { Finds (Has (IsWord spec.slot_word) (codes "slot") (view value.now)) result }
 {
-    match text_at(value, "cipher-alg") {
-        Some("aes-gcm") => Some(Cipher::AesGcm),
-        _ => None,
+    match value.get("slot") {
+        Some(found) => Ok(Some(slot_of(found)?)),
+        None => Ok(None),
     }
 }
 
-/// The `keyconf` of key-new. `Bad` comes exactly where the value is none.
-#[tactic(auto, unfolding(crate::specs::Keyconf::conf_of))]
-pub fn conf_of(alloc: Global, value: &Value) -> Result<NlKeyConf, LineStop>
-    ensures ok { IfOk result (λ conf. spec.conf_of (view value.now) ≡ Some conf) }
-    ensures bad { IfErr result (λ stop. stop ≡ LineStop.Bad
-        → spec.conf_of (view value.now) ≡ None) }
+/// The cipher that the value is the word for.
+fn cipher_of(value: &Value) -> Result<Cipher, Why>
+    ensures { Finds (IsWord spec.cipher_word (view value.now)) result }
 {
-    let names = [
-        "cipher-alg",
-        "decrypt-dir",
-        "encrypt-dir",
-        "key-id",
-        "peer-id",
-        "slot",
-    ];
-    if !has_only(value, &names) {
-        return Err(LineStop::Bad);
+    match text_of(value, "cipher-alg")? {
+        "none" => Ok(Cipher::NoCipher),
+        "aes-gcm" => Ok(Cipher::AesGcm),
+        "chacha20-poly1305" => Ok(Cipher::ChaCha20Poly1305),
+        _ => Err(Why::Range(Name::of("cipher-alg"))),
     }
-    let Some(peer) = number_at(value, "peer-id", 0, ov_model::ident::MOST_PEER_ID) else {
-        return Err(LineStop::Bad);
-    };
-    let Some(slot) = slot_at(value) else {
-        return Err(LineStop::Bad);
-    };
-    let Some(key_id) = number_at(value, "key-id", 0, 7) else {
-        return Err(LineStop::Bad);
-    };
-    let Some(cipher) = cipher_at(value) else {
-        return Err(LineStop::Bad);
-    };
+}
+
+/// The cipher, where there is one.
+fn cipher_at(value: &Value) -> Result<Option<Cipher>, Why>
+    ensures { Finds (Has (IsWord spec.cipher_word) (codes "cipher-alg") (view value.now)) result }
+{
+    match value.get("cipher-alg") {
+        Some(found) => Ok(Some(cipher_of(found)?)),
+        None => Ok(None),
+    }
+}
+
+/// The attributes of a key, where no names but these stand there.
+fn attributes(alloc: Global, value: &Value, names: &[&str]) -> Result<NlKeyConf, LineStop>
+    ensures { Reads (spec.IsConf (map (λ n. n.now) names.now) (view value.now)) result }
+{
+    only(value, "keyconf", names)?;
+    let peer_id = number_at(value, "peer-id", u32::MAX)?;
+    let slot = slot_at(value)?;
+    let key_id = number_at(value, "key-id", u32::MAX)?;
+    let cipher = cipher_at(value)?;
     let encrypt = dir_at(alloc, value, "encrypt-dir")?;
     let decrypt = dir_at(alloc, value, "decrypt-dir")?;
     Ok(NlKeyConf {
-        peer_id: Some(peer),
-        slot: Some(slot),
-        key_id: Some(key_id),
-        cipher: Some(cipher),
-        encrypt: Some(encrypt),
-        decrypt: Some(decrypt),
+        peer_id,
+        slot,
+        key_id,
+        cipher,
+        encrypt,
+        decrypt,
     })
+}
+
+/// The attributes of a key, by the names that an operation has for it.
+fn conf_of(alloc: Global, op: NlOp, value: &Value) -> Result<NlKeyConf, LineStop>
+    ensures { Reads (spec.IsConf (spec.conf_names op) (view value.now)) result }
+{
+    match op {
+        NlOp::KeyNew => attributes(
+            alloc,
+            value,
+            &[
+                "cipher-alg",
+                "decrypt-dir",
+                "encrypt-dir",
+                "key-id",
+                "peer-id",
+                "slot",
+            ],
+        ),
+        NlOp::KeyGet | NlOp::KeyDel => attributes(alloc, value, &["peer-id", "slot"]),
+        NlOp::KeySwap => attributes(alloc, value, &["peer-id"]),
+        _ => attributes(alloc, value, &[]),
+    }
+}
+
+/// The key that a line asks an operation of, where it gives one.
+pub fn conf_at(alloc: Global, op: NlOp, value: &Value) -> Result<Option<NlKeyConf>, LineStop>
+    ensures { Reads (Has (spec.IsConf (spec.conf_names op)) (codes "keyconf") (view value.now)) result }
+{
+    match value.get("keyconf") {
+        Some(found) => Ok(Some(conf_of(alloc, op, found)?)),
+        None => Ok(None),
+    }
 }

@@ -9,6 +9,7 @@ pub mod compact_tx;
 pub mod digits;
 pub mod grammar;
 pub mod keyconf;
+pub mod laws;
 pub mod line;
 #[cfg(test)]
 mod line_tests;
@@ -19,6 +20,13 @@ mod odd_lines_tests;
 mod packet_tests;
 pub mod packets;
 pub mod parts;
+pub mod peer;
+pub mod text;
+pub mod why;
+pub mod write;
+pub mod write_message;
 
 pub use line::{LineStop, read_line};
 pub use packets::{MOST_DATAGRAM, MOST_PACKET};
+pub use text::line_bytes;
+pub use why::{Name, Why};

@@ -1,9 +1,15 @@
 use crate::line::read_value;
 use crate::{LineStop, read_line};
+use ov_model::Line;
+
+/// Whether the bytes were found outside the grammar, whatever the reason.
+fn is_bad(read: &Result<Line, LineStop>) -> bool {
+    matches!(read, Err(LineStop::Bad(_)))
+}
 
 #[test]
 fn an_odd_line_of_the_grammar_is_read_as_without_the_first_look(rt: HostRuntime) {
-    let rows: [&[u8]; 56] = [
+    let rows: [&[u8]; 68] = [
         // 0: the texts that are looked at first
         br#"{"at":1,"do":"tx","lane":2,"packet":"45aF"}"#,
         br#"{"at":1,"datagram":"4a00","do":"rx","from":{"addr":"192.0.2.1","port":1194},"lane":2}"#,
@@ -68,6 +74,19 @@ fn an_odd_line_of_the_grammar_is_read_as_without_the_first_look(rt: HostRuntime)
         br#"{"at":0,"do":"key-new","keyconf":{"cipher-alg":"aes-gcm","decrypt-dir":{"cipher-key":"000102030405060708090a0b0c0d0e0f","nonce-tail":"0001020304050607"},"encrypt-dir":{"cipher-key":"ff0102030405060708090a0b0c0d0e0f","nonce-tail":"FE01020304050607"},"key-id":2,"peer-id":5,"slot":"pri\u006dary"},"lane":1}"#,
         br#"{"at":0,"do":"key-new","keyconf":{"cipher-alg":"aes-gcm","decrypt-dir":{"cipher-key":"000102030405060708090a0b0c0d0e0f","nonce-tail":"0001020304050607"},"encrypt-dir":{"cipher-key":"ff0102030405060708090a0b0c0d0e0f","nonce-tail":"FE01020304050607"},"key-id":9,"key-id":2,"peer-id":5,"slot":"primary"},"lane":1}"#,
         br#"{"at":0,"do":"key-new","keyconf":{"cipher-alg":"aes-gcm","decrypt-dir":{"cipher-key":"000102030405060708090a0b0c0d0e0f","nonce-tail":"0001020304050607"},"encrypt-dir":{"cipher-key":"ff0102030405060708090a0b0c0d0e0f","nonce-tail":"FE01020304050607"},"key-id":2,"peer-id":5,"slot":"primary"}, "lane":1}"#,
+        // 56: attributes that the attribute checks refuse, which are no bad lines
+        br#"{"at":0,"do":"peer-new","lane":1,"peer":{"id":16777216,"remote-ipv4":"192.0.2.1","remote-port":1194,"vpn-ipv4":"10.8.0.5"}}"#,
+        br#"{"at":0,"do":"peer-new","lane":1,"peer":{"id":5,"remote-ipv4":"192.0.2.1","remote-port":0,"vpn-ipv4":"10.8.0.5"}}"#,
+        br#"{"at":0,"do":"peer-new","lane":1,"peer":{"id":5,"remote-ipv4":"192.0.2.1","remote-port":65536,"vpn-ipv4":"10.8.0.5"}}"#,
+        br#"{"at":0,"do":"key-new","keyconf":{"cipher-alg":"aes-gcm","decrypt-dir":{"cipher-key":"000102030405060708090a0b0c0d0e0f","nonce-tail":"0001020304050607"},"encrypt-dir":{"cipher-key":"ff0102030405060708090a0b0c0d0e0f","nonce-tail":"FE01020304050607"},"key-id":8,"peer-id":5,"slot":"primary"},"lane":1}"#,
+        br#"{"at":0,"do":"key-new","keyconf":{"cipher-alg":"aes-gcm","decrypt-dir":{"cipher-key":"000102030405060708090a0b0c0d0e0f","nonce-tail":"0001020304050607"},"encrypt-dir":{"cipher-key":"ff0102030405060708090a0b0c0d0e0f","nonce-tail":"FE01020304050607"},"key-id":2,"peer-id":16777216,"slot":"primary"},"lane":1}"#,
+        br#"{"at":0,"do":"key-new","keyconf":{"cipher-alg":"aes-gcm","decrypt-dir":{"cipher-key":"000102030405060708090a0b0c0d0e0f","nonce-tail":"0001020304050607"},"encrypt-dir":{"cipher-key":"ff0102030405060708090a0b0c0d0e0f","nonce-tail":"FE01020304050607"},"key-id":2,"peer-id":5,"slot":"secondary"},"lane":1}"#,
+        br#"{"at":0,"do":"key-new","keyconf":{"cipher-alg":"none","decrypt-dir":{"cipher-key":"000102030405060708090a0b0c0d0e0f","nonce-tail":"0001020304050607"},"encrypt-dir":{"cipher-key":"ff0102030405060708090a0b0c0d0e0f","nonce-tail":"FE01020304050607"},"key-id":2,"peer-id":5,"slot":"primary"},"lane":1}"#,
+        br#"{"at":0,"do":"key-new","keyconf":{"cipher-alg":"aes-gcm","decrypt-dir":{"cipher-key":"000102030405060708090a0b0c0d0e","nonce-tail":"0001020304050607"},"encrypt-dir":{"cipher-key":"ff0102030405060708090a0b0c0d0e0f","nonce-tail":"FE01020304050607"},"key-id":2,"peer-id":5,"slot":"primary"},"lane":1}"#,
+        br#"{"at":0,"do":"key-new","keyconf":{"cipher-alg":"aes-gcm","decrypt-dir":{"cipher-key":"000102030405060708090a0b0c0d0e0f00","nonce-tail":"0001020304050607"},"encrypt-dir":{"cipher-key":"ff0102030405060708090a0b0c0d0e0f","nonce-tail":"FE01020304050607"},"key-id":2,"peer-id":5,"slot":"primary"},"lane":1}"#,
+        br#"{"at":0,"do":"key-new","keyconf":{"cipher-alg":"aes-gcm","decrypt-dir":{"cipher-key":"000102030405060708090a0b0c0d0e0f","nonce-tail":"0001020304050607"},"encrypt-dir":{"cipher-key":"","nonce-tail":"FE01020304050607"},"key-id":2,"peer-id":5,"slot":"primary"},"lane":1}"#,
+        br#"{"at":0,"do":"key-new","keyconf":{"cipher-alg":"aes-gcm","decrypt-dir":{"cipher-key":"000102030405060708090a0b0c0d0e0f","nonce-tail":"00010203040506"},"encrypt-dir":{"cipher-key":"ff0102030405060708090a0b0c0d0e0f","nonce-tail":"FE01020304050607"},"key-id":2,"peer-id":5,"slot":"primary"},"lane":1}"#,
+        br#"{"at":0,"do":"key-new","keyconf":{"cipher-alg":"aes-gcm","decrypt-dir":{"cipher-key":"000102030405060708090a0b0c0d0e0f","nonce-tail":"0001020304050607"},"encrypt-dir":{"cipher-key":"ff0102030405060708090a0b0c0d0e0f","nonce-tail":"000102030405060700"},"key-id":2,"peer-id":5,"slot":"primary"},"lane":1}"#,
     ];
     for (number, bytes) in rows.iter().enumerate() {
         let read = read_line(rt.alloc(), bytes, 4);
@@ -78,7 +97,7 @@ fn an_odd_line_of_the_grammar_is_read_as_without_the_first_look(rt: HostRuntime)
 
 #[test]
 fn an_odd_line_outside_the_grammar_is_bad_as_without_the_first_look(rt: HostRuntime) {
-    let rows: [&[u8]; 116] = [
+    let rows: [&[u8]; 104] = [
         // 0: numbers: a sign, a fraction, an exponent, leading zeros, too large, none
         br#"{"at":-1,"do":"tx","lane":2,"packet":"45aF"}"#,
         br#"{"at":-0,"do":"tx","lane":2,"packet":"45aF"}"#,
@@ -176,11 +195,8 @@ fn an_odd_line_outside_the_grammar_is_bad_as_without_the_first_look(rt: HostRunt
         br#"{"at":1,"datagram":"4a00","do":"rx","from":{"addr":"192.0.2.1","port":1194,"id":1},"lane":2}"#,
         br#"{"at":1,"packet":"4a00","do":"rx","from":{"addr":"192.0.2.1","port":1194},"lane":2}"#,
         // 87: peers
-        br#"{"at":0,"do":"peer-new","lane":1,"peer":{"id":16777216,"remote-ipv4":"192.0.2.1","remote-port":1194,"vpn-ipv4":"10.8.0.5"}}"#,
         br#"{"at":0,"do":"peer-new","lane":1,"peer":{"id":05,"remote-ipv4":"192.0.2.1","remote-port":1194,"vpn-ipv4":"10.8.0.5"}}"#,
         br#"{"at":0,"do":"peer-new","lane":1,"peer":{"id":-1,"remote-ipv4":"192.0.2.1","remote-port":1194,"vpn-ipv4":"10.8.0.5"}}"#,
-        br#"{"at":0,"do":"peer-new","lane":1,"peer":{"id":5,"remote-ipv4":"192.0.2.1","remote-port":0,"vpn-ipv4":"10.8.0.5"}}"#,
-        br#"{"at":0,"do":"peer-new","lane":1,"peer":{"id":5,"remote-ipv4":"192.0.2.1","remote-port":65536,"vpn-ipv4":"10.8.0.5"}}"#,
         br#"{"at":0,"do":"peer-new","lane":1,"peer":{"id":5,"remote-ipv4":"192.0.2.1","remote-port":4294968490,"vpn-ipv4":"10.8.0.5"}}"#,
         br#"{"at":0,"do":"peer-new","lane":1,"peer":{"id":5,"remote-ipv4":"192.0.2.01","remote-port":1194,"vpn-ipv4":"10.8.0.5"}}"#,
         br#"{"at":0,"do":"peer-new","lane":1,"peer":{"id":5,"remote-ipv4":"192.0.2.1","remote-port":1194,"vpn-ipv4":"10.8.0"}}"#,
@@ -188,19 +204,10 @@ fn an_odd_line_outside_the_grammar_is_bad_as_without_the_first_look(rt: HostRunt
         br#"{"at":0,"do":"peer-new","lane":4,"peer":{"id":5,"remote-ipv4":"192.0.2.1","remote-port":1194,"vpn-ipv4":"10.8.0.5"}}"#,
         br#"{"at":0,"do":"peer-new","lane":1,"peer":{"id":5,"remote-ipv4":"192.0.2.1","remote-port":1194,"vpn-ipv4":"10.8.0.5"}"#,
         br#"{"at":0,"do":"peer-new","lane":1,"peer":{"id":5,"remote-ipv4":"192.0.2.1","remote-port":1194,"vpn-ipv4":"10.8.0.5"}}}"#,
-        // 99: keys
-        br#"{"at":0,"do":"key-new","keyconf":{"cipher-alg":"aes-gcm","decrypt-dir":{"cipher-key":"000102030405060708090a0b0c0d0e0f","nonce-tail":"0001020304050607"},"encrypt-dir":{"cipher-key":"ff0102030405060708090a0b0c0d0e0f","nonce-tail":"FE01020304050607"},"key-id":8,"peer-id":5,"slot":"primary"},"lane":1}"#,
+        // 96: keys
         br#"{"at":0,"do":"key-new","keyconf":{"cipher-alg":"aes-gcm","decrypt-dir":{"cipher-key":"000102030405060708090a0b0c0d0e0f","nonce-tail":"0001020304050607"},"encrypt-dir":{"cipher-key":"ff0102030405060708090a0b0c0d0e0f","nonce-tail":"FE01020304050607"},"key-id":02,"peer-id":5,"slot":"primary"},"lane":1}"#,
-        br#"{"at":0,"do":"key-new","keyconf":{"cipher-alg":"aes-gcm","decrypt-dir":{"cipher-key":"000102030405060708090a0b0c0d0e0f","nonce-tail":"0001020304050607"},"encrypt-dir":{"cipher-key":"ff0102030405060708090a0b0c0d0e0f","nonce-tail":"FE01020304050607"},"key-id":2,"peer-id":16777216,"slot":"primary"},"lane":1}"#,
-        br#"{"at":0,"do":"key-new","keyconf":{"cipher-alg":"aes-gcm","decrypt-dir":{"cipher-key":"000102030405060708090a0b0c0d0e0f","nonce-tail":"0001020304050607"},"encrypt-dir":{"cipher-key":"ff0102030405060708090a0b0c0d0e0f","nonce-tail":"FE01020304050607"},"key-id":2,"peer-id":5,"slot":"secondary"},"lane":1}"#,
-        br#"{"at":0,"do":"key-new","keyconf":{"cipher-alg":"none","decrypt-dir":{"cipher-key":"000102030405060708090a0b0c0d0e0f","nonce-tail":"0001020304050607"},"encrypt-dir":{"cipher-key":"ff0102030405060708090a0b0c0d0e0f","nonce-tail":"FE01020304050607"},"key-id":2,"peer-id":5,"slot":"primary"},"lane":1}"#,
-        br#"{"at":0,"do":"key-new","keyconf":{"cipher-alg":"aes-gcm","decrypt-dir":{"cipher-key":"000102030405060708090a0b0c0d0e","nonce-tail":"0001020304050607"},"encrypt-dir":{"cipher-key":"ff0102030405060708090a0b0c0d0e0f","nonce-tail":"FE01020304050607"},"key-id":2,"peer-id":5,"slot":"primary"},"lane":1}"#,
-        br#"{"at":0,"do":"key-new","keyconf":{"cipher-alg":"aes-gcm","decrypt-dir":{"cipher-key":"000102030405060708090a0b0c0d0e0f00","nonce-tail":"0001020304050607"},"encrypt-dir":{"cipher-key":"ff0102030405060708090a0b0c0d0e0f","nonce-tail":"FE01020304050607"},"key-id":2,"peer-id":5,"slot":"primary"},"lane":1}"#,
         br#"{"at":0,"do":"key-new","keyconf":{"cipher-alg":"aes-gcm","decrypt-dir":{"cipher-key":"000102030405060708090a0b0c0d0e0","nonce-tail":"0001020304050607"},"encrypt-dir":{"cipher-key":"ff0102030405060708090a0b0c0d0e0f","nonce-tail":"FE01020304050607"},"key-id":2,"peer-id":5,"slot":"primary"},"lane":1}"#,
-        br#"{"at":0,"do":"key-new","keyconf":{"cipher-alg":"aes-gcm","decrypt-dir":{"cipher-key":"000102030405060708090a0b0c0d0e0f","nonce-tail":"0001020304050607"},"encrypt-dir":{"cipher-key":"","nonce-tail":"FE01020304050607"},"key-id":2,"peer-id":5,"slot":"primary"},"lane":1}"#,
         br#"{"at":0,"do":"key-new","keyconf":{"cipher-alg":"aes-gcm","decrypt-dir":{"cipher-key":"000102030405060708090a0b0c0d0e0f","nonce-tail":"0001020304050607"},"encrypt-dir":{"cipher-key":"g00102030405060708090a0b0c0d0e0f","nonce-tail":"FE01020304050607"},"key-id":2,"peer-id":5,"slot":"primary"},"lane":1}"#,
-        br#"{"at":0,"do":"key-new","keyconf":{"cipher-alg":"aes-gcm","decrypt-dir":{"cipher-key":"000102030405060708090a0b0c0d0e0f","nonce-tail":"00010203040506"},"encrypt-dir":{"cipher-key":"ff0102030405060708090a0b0c0d0e0f","nonce-tail":"FE01020304050607"},"key-id":2,"peer-id":5,"slot":"primary"},"lane":1}"#,
-        br#"{"at":0,"do":"key-new","keyconf":{"cipher-alg":"aes-gcm","decrypt-dir":{"cipher-key":"000102030405060708090a0b0c0d0e0f","nonce-tail":"0001020304050607"},"encrypt-dir":{"cipher-key":"ff0102030405060708090a0b0c0d0e0f","nonce-tail":"000102030405060700"},"key-id":2,"peer-id":5,"slot":"primary"},"lane":1}"#,
         br#"{"at":0,"do":"key-new","keyconf":{"cipher-alg":"aes-gcm","decrypt-dir":{"cipher-key":"000102030405060708090a0b0c0d0e0f","nonce-tail":"0001020304050607"},"encrypt-dir":{"cipher-key":"ff0102030405060708090a0b0c0d0e0f","nonce-tail":"000102030405060g"},"key-id":2,"peer-id":5,"slot":"primary"},"lane":1}"#,
         br#"{"at":0,"do":"key-new","keyconf":{"cipher-alg":"aes-gcm","decrypt-dir":{"cipher-key":"000102030405060708090a0b0c0d0e0f","nonce-tail":"0001020304050607"},"encrypt-dir":{"cipher-key":"ff0102030405060708090a0b0c0d0e0f","nonce-tail":"FE01020304050607"},"key-id":2,"peer-id":5,"slot":"primary"},"lane":4}"#,
         br#"{"at":4294967296,"do":"key-new","keyconf":{"cipher-alg":"aes-gcm","decrypt-dir":{"cipher-key":"000102030405060708090a0b0c0d0e0f","nonce-tail":"0001020304050607"},"encrypt-dir":{"cipher-key":"ff0102030405060708090a0b0c0d0e0f","nonce-tail":"FE01020304050607"},"key-id":2,"peer-id":5,"slot":"primary"},"lane":1}"#,
@@ -208,13 +215,7 @@ fn an_odd_line_outside_the_grammar_is_bad_as_without_the_first_look(rt: HostRunt
         br#"{"at":0,"do":"key-new","keyconf":{"cipher-alg":"aes-gcm","decrypt-dir":{"cipher-key":"000102030405060708090a0b0c0d0e0f","nonce-tail":"0001020304050607"},"encrypt-dir":{"cipher-key":"ff0102030405060708090a0b0c0d0e0f","nonce-tail":"FE01020304050607"},"key-id":2,"peer-id":5,"slot":"primary"},"lane":1}0"#,
     ];
     for (number, bytes) in rows.iter().enumerate() {
-        assert!(rt;
-            read_line(rt.alloc(), bytes, 4) == Err(LineStop::Bad),
-            "row {number}"
-        );
-        assert!(rt;
-            read_value(rt.alloc(), bytes, 4) == Err(LineStop::Bad),
-            "row {number}"
-        );
+        assert!(rt; is_bad(&read_line(rt.alloc(), bytes, 4)), "row {number}");
+        assert!(rt; is_bad(&read_value(rt.alloc(), bytes, 4)), "row {number}");
     }
 }

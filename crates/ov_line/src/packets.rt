@@ -1,18 +1,18 @@
-//! The lines of packets: an inner packet that is sent, a datagram that is received.
+//! The lines of packets and of a lost transport: an inner packet that is sent, a datagram that is received,
+//! a peer whose transport is lost.
 
-ghost use Rattle.std.specs.Prelude.{◌≡◌, Some, None, IfOk, IfErr, MatchOption, codes};
+ghost use Rattle.std.specs.Prelude.{Some, codes};
 ghost use Rattle.serde_json.specs.View.{view};
-ghost use Rattle.ov_base.specs.declared.address.Transport.{Transport};
-ghost use Rattle.ov_model.specs.declared.line.Deed.{Deed};
-ghost use Rattle.ov_model.specs.declared.line.Deed.TheVariants as made;
-ghost use Rattle.ov_line.specs.declared.grammar.Form.TheVariants as form;
-ghost use Rattle.ov_line.specs.Values as values;
+ghost use Rattle.ov_line.specs.Values.{Has};
 ghost use Rattle.ov_line.specs.Grammar as spec;
+ghost use Rattle.ov_line.specs.Outcome.{Finds, Reads};
 
 use crate::line::LineStop;
-use crate::member::{addr_of, bytes_at, has_only, number_at, text_at};
+use crate::member::{addr_at, hex_at, needed, number_at, number_of, only, text_of};
+use crate::why::{Name, Why};
 use ov_base::{Octets, Transport};
-use ov_model::Deed;
+use ov_model::ident::MOST_PEER_ID;
+use ov_model::{PeerId, Reason};
 use serde_json::Value;
 use std::alloc::Global;
 
@@ -23,74 +23,106 @@ pub const MOST_PACKET: usize = 65_483;
 pub const MOST_DATAGRAM: usize = 65_507;
 
 /// The transport that the value is.
-fn transport_of(value: &Value) -> Option<Transport>
-    ensures { MatchOption result
-        ((t : Transport) → ¬ (values.IsTransport (view value.now) t))
-        (λ t. values.IsTransport (view value.now) t) }
+fn transport_of(value: &Value) -> Result<Transport, Why>
+    ensures { Finds (spec.IsTransport (view value.now)) result }
 {
-    if !has_only(value, &["addr", "port"]) {
-        return None;
-    }
-    let addr = addr_of(text_at(value, "addr")?)?;
-    let port = number_at(value, "port", 0, 65535)?;
-    Some(Transport {
+    only(value, "from", &["addr", "port"])?;
+    let addr = needed(addr_at(value, "addr")?, "addr")?;
+    let port = needed(number_at(value, "port", 65535)?, "port")?;
+    Ok(Transport {
         addr,
         port: port as u16,
     })
 }
 
-/// The inner packet of a line that sends one. `Bad` comes exactly where the value is no such line.
-pub fn tx_packet(alloc: Global, value: &Value) -> Result<Octets, LineStop>
-    ensures ok { IfOk result (λ packet. spec.tx_packet (view value.now) ≡ Some packet) }
-    ensures bad { IfErr result (λ stop. stop ≡ LineStop.Bad
-        → spec.tx_packet (view value.now) ≡ None) }
+/// The transport under `from`.
+fn sender(value: &Value) -> Result<Transport, Why>
+    ensures { Finds (λ from. Has spec.IsTransport (codes "from") (view value.now) (Some from)) result }
 {
-    if !has_only(value, &["at", "do", "lane", "packet"]) {
-        return Err(LineStop::Bad);
+    match value.get("from") {
+        Some(found) => transport_of(found),
+        None => Err(Why::Missing(Name::of("from"))),
     }
-    let packet = bytes_at(alloc, value, "packet")?;
-    if packet.len() > MOST_PACKET {
-        return Err(LineStop::Bad);
-    }
+}
+
+/// The inner packet of a line that sends one.
+pub fn packet_of(alloc: Global, value: &Value) -> Result<Octets, LineStop>
+    ensures { Reads (spec.IsTx (view value.now)) result }
+{
+    only(value, "line", &["at", "do", "lane", "packet"])?;
+    let packet = needed(hex_at(alloc, value, "packet", MOST_PACKET)?, "packet")?;
     Ok(packet)
 }
 
-/// The datagram under `datagram`.
-fn datagram_at(alloc: Global, value: &Value) -> Result<Octets, LineStop>
-    ensures ok { IfOk result (λ d.
-        values.sized_at spec.is_datagram_length (codes "datagram") (view value.now) ≡ Some d) }
-    ensures bad { IfErr result (λ stop. stop ≡ LineStop.Bad
-        → values.sized_at spec.is_datagram_length (codes "datagram") (view value.now) ≡ None) }
+/// Where from a datagram comes, and the datagram, of a line by which one comes.
+pub fn receipt_of(alloc: Global, value: &Value) -> Result<(Transport, Octets), LineStop>
+    ensures { Reads (λ receipt. spec.IsRx (view value.now) receipt.0 receipt.1) result }
 {
-    let datagram = bytes_at(alloc, value, "datagram")?;
-    if datagram.len() > MOST_DATAGRAM {
-        return Err(LineStop::Bad);
-    }
-    Ok(datagram)
+    only(value, "line", &["at", "datagram", "do", "from", "lane"])?;
+    let from = sender(value)?;
+    let datagram = needed(hex_at(alloc, value, "datagram", MOST_DATAGRAM)?, "datagram")?;
+    Ok((from, datagram))
 }
 
-/// The transport under `from`.
-fn from_at(value: &Value) -> Option<Transport>
-    ensures { MatchOption result
-        ((t : Transport) → ¬ (spec.IsFrom (view value.now) t))
-        (λ t. spec.IsFrom (view value.now) t) }
+/// The id that the value is.
+fn id_of(value: &Value) -> Result<PeerId, Why>
+    ensures { Finds (spec.IsId (view value.now)) result }
 {
-    let from = transport_of(value.get("from")?)?;
-    Some(from)
+    let number = number_of(value, "id", MOST_PEER_ID)?;
+    match PeerId::new(number) {
+        Some(id) => Ok(id),
+        None => Err(Why::Range(Name::of("id"))),
+    }
 }
 
-/// The receipt of a line by which a datagram comes. `Bad` comes exactly where the value is no such line.
-pub fn receipt_of(alloc: Global, value: &Value) -> Result<Deed, LineStop>
-    ensures ok { IfOk result (λ deed. spec.HasForm form.Rx (view value.now) deed) }
-    ensures bad { IfErr result (λ stop. stop ≡ LineStop.Bad → (deed : Deed)
-        → ¬ (spec.HasForm form.Rx (view value.now) deed)) }
+/// The id under `id`.
+fn id_in(value: &Value) -> Result<PeerId, Why>
+    ensures { Finds (λ id. Has spec.IsId (codes "id") (view value.now) (Some id)) result }
 {
-    if !has_only(value, &["at", "datagram", "do", "from", "lane"]) {
-        return Err(LineStop::Bad);
+    match value.get("id") {
+        Some(found) => id_of(found),
+        None => Err(Why::Missing(Name::of("id"))),
     }
-    let Some(from) = from_at(value) else {
-        return Err(LineStop::Bad);
-    };
-    let datagram = datagram_at(alloc, value)?;
-    Ok(Deed::Rx { from, datagram })
+}
+
+/// The reason of a loss that the value is the word for.
+fn reason_of(value: &Value) -> Result<Reason, Why>
+    ensures { Finds (spec.IsLoss (view value.now)) result }
+{
+    match text_of(value, "del-reason")? {
+        "transport-error" => Ok(Reason::TransportError),
+        "transport-disconnect" => Ok(Reason::TransportDisconnect),
+        _ => Err(Why::Range(Name::of("del-reason"))),
+    }
+}
+
+/// The reason under `del-reason`.
+fn reason_in(value: &Value) -> Result<Reason, Why>
+    ensures { Finds (λ reason. Has spec.IsLoss (codes "del-reason") (view value.now) (Some reason)) result }
+{
+    match value.get("del-reason") {
+        Some(found) => reason_of(found),
+        None => Err(Why::Missing(Name::of("del-reason"))),
+    }
+}
+
+/// The peer whose transport is lost, and why, that the value is.
+fn lost_of(value: &Value) -> Result<(PeerId, Reason), Why>
+    ensures { Finds (spec.IsLost (view value.now)) result }
+{
+    only(value, "peer", &["del-reason", "id"])?;
+    let id = id_in(value)?;
+    let reason = reason_in(value)?;
+    Ok((id, reason))
+}
+
+/// The peer whose transport is lost, and why, of a line by which it is.
+pub fn loss_of(value: &Value) -> Result<(PeerId, Reason), Why>
+    ensures { Finds (λ lost. spec.IsLoser (view value.now) lost.0 lost.1) result }
+{
+    only(value, "line", &["at", "do", "lane", "peer"])?;
+    match value.get("peer") {
+        Some(found) => lost_of(found),
+        None => Err(Why::Missing(Name::of("peer"))),
+    }
 }

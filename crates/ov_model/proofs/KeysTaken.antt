@@ -54,7 +54,7 @@ slots_total x [] = refl
 slots_total x (p ∷ ps) = slots_first x p ps ∙ ap (λ n. times x (peer_keys p) + n) (slots_total x ps)
 
 -- The keys of some peers have the serials in their slots.
-keys_serials : (ps : List Peer) → key_serials (keys_of ps) ≡ slot_serials ps
+pub keys_serials : (ps : List Peer) → key_serials (keys_of ps) ≡ slot_serials ps
 keys_serials [] = refl
 keys_serials (p ∷ ps) = map-append (λ (k : Key). k.serial) (keys_in p.slots) (keys_of ps) ∙ ap (λ ns. peer_keys p ++ ns) (keys_serials ps)
 

@@ -1,6 +1,7 @@
 //! From the attributes as they were given to a command (the operations of the netlink family `ovpn`).
 
-ghost use Rattle.std.specs.Prelude.{◌≡◌, false, Some};
+ghost use Rattle.std.specs.Prelude.{◌≡◌, false, true, Some, IfOk, OnOk, IfErr, OnErr};
+ghost use Rattle.ov_model.specs.declared.reply.Errno.TheVariants.{Invalid};
 ghost use Rattle.ov_model.specs.Checked as spec;
 
 use crate::keys::key_command;
@@ -101,97 +102,59 @@ fn attrs_of(id: PeerId, peer: &NlPeer) -> Attrs
     }
 }
 
-/// The command of an operation on a peer whose id is in range.
+/// The attributes of a peer whose id is in range, where they pass the checks.
+fn checked_attrs(id: PeerId, peer: &NlPeer) -> Result<Attrs, Errno>
+    ensures valid { OnOk result (spec.is_invalid peer.now ≡ false) }
+    ensures attrs { IfOk result (λ attrs. attrs ≡ spec.attrs_of id peer.now) }
+    ensures err { OnErr result (spec.is_invalid peer.now ≡ true) }
+    ensures cause { IfErr result (λ e. e ≡ Invalid) }
+{
+    if is_invalid(peer) {
+        return Err(Errno::Invalid);
+    }
+    Ok(attrs_of(id, peer))
+}
+
+/// The command of an operation on one peer whose id is in range.
 fn command_of(op: NlOp, peer: &NlPeer, id: PeerId) -> Result<Command, Errno>
     ensures { result ≡ spec.checked_peer op peer.now (Some id) }
 {
     match op {
-        NlOp::PeerNew => {
-            if is_invalid(peer) {
-                return Err(Errno::Invalid);
-            }
-            Ok(Command::PeerNew(attrs_of(id, peer)))
-        }
+        NlOp::PeerNew => Ok(Command::PeerNew(checked_attrs(id, peer)?)),
+        NlOp::PeerSet => Ok(Command::PeerSet(checked_attrs(id, peer)?)),
         NlOp::PeerGet => Ok(Command::PeerGet(id)),
         NlOp::PeerDel => Ok(Command::Remove(id, Reason::Userspace)),
-        NlOp::KeyNew => Err(Errno::Invalid),
+        _ => Err(Errno::Invalid),
     }
 }
 
-/// The command of an operation on peers.
+/// The command of an operation on one peer.
 fn peer_command(op: NlOp, peer: &Option<NlPeer>) -> Result<Command, Errno>
     ensures { result ≡ spec.checked_with op peer.now }
 {
-    let Some(peer) = peer else {
-        return Err(Errno::Invalid);
-    };
-    let Some(id) = peer.id.and_then(PeerId::new) else {
-        return Err(Errno::Invalid);
-    };
+    let peer = peer.as_ref().ok_or(Errno::Invalid)?;
+    let id = peer.id.and_then(PeerId::new).ok_or(Errno::Invalid)?;
     command_of(op, peer, id)
 }
 
-/// The command of a message. `Errno::Invalid` comes exactly where, of an operation on peers, the peer or
-/// its id is missing, the id is above 16777215, or an attribute of peer-new is out of range, stands
-/// without another that it needs, or is a second remote or a second local address, of the other family;
-/// and, of key-new, an attribute is missing or out of its range.
-/// `Errno::NotSupported` comes exactly where key-new is right but for its cipher. A message that is
-/// refused makes no step of the peer table.
+/// The command of a message. `Errno::Invalid` comes exactly where, of an operation on one peer, the peer or
+/// its id is missing, the id is above 16777215, or an attribute of peer-new or peer-set is out of range,
+/// stands without another that it needs, or is a second remote or a second local address, of the other
+/// family; and where, of an operation on keys, an attribute that it needs is missing or out of its range:
+/// all of them of key-new, the peer's id and the slot of key-get and key-del, the peer's id of key-swap.
+/// `Errno::NotSupported` comes exactly where key-new is right but for its cipher. Attributes that an
+/// operation doesn't need are not looked at. A message that is refused makes no step of the peer table.
 #[tactic(auto, unfolding(ov_model::specs::Checked::checked))]
 pub fn call_of(message: &NlMessage) -> Result<Command, Errno>
     ensures { result ≡ spec.checked message.now }
 {
     match message.op {
-        NlOp::PeerNew => peer_command(NlOp::PeerNew, &message.peer),
-        NlOp::PeerGet => peer_command(NlOp::PeerGet, &message.peer),
-        NlOp::PeerDel => peer_command(NlOp::PeerDel, &message.peer),
-        NlOp::KeyNew => key_command(&message.keyconf),
-    }
-}
-
-#[cfg(test)]
-mod tests {
-    use super::*;
-    use ov_model::netlink::NO_ATTRIBUTES;
-    use std::test::Fail;
-
-    #[test]
-    fn a_message_with_all_that_it_needs_is_a_command(rt: HostRuntime) -> Result<(), Fail> {
-        let peer = NlPeer {
-            id: Some(16777215),
-            remote_ipv4: Some([192, 0, 2, 1]),
-            remote_port: Some(1194),
-            vpn_ipv4: Some([10, 8, 0, 5]),
-            keepalive_interval: Some(10),
-            keepalive_timeout: Some(30),
-            ..NO_ATTRIBUTES
-        };
-        let message = NlMessage {
-            op: NlOp::PeerNew,
-            ifindex: None,
-            peer: Some(peer),
-            keyconf: None,
-        };
-        let Ok(Command::PeerNew(attrs)) = call_of(&message) else {
-            panic!(rt; "refused");
-        };
-        assert_eq!(rt; attrs.id.get(), 16777215);
-        assert_eq!(rt; attrs.vpn4, Some([10, 8, 0, 5]));
-        assert!(rt; attrs.remote.is_some() && attrs.keepalive.is_some());
-        Ok(())
-    }
-
-    #[test]
-    fn a_message_without_a_peer_or_an_id_is_refused(rt: HostRuntime) -> Result<(), Fail> {
-        for peer in [None, Some(NO_ATTRIBUTES)] {
-            let message = NlMessage {
-                op: NlOp::PeerGet,
-                ifindex: None,
-                peer,
-                keyconf: None,
-            };
-            assert_eq!(rt; call_of(&message), Err(Errno::Invalid));
+        NlOp::PeerNew | NlOp::PeerSet | NlOp::PeerGet | NlOp::PeerDel => {
+            peer_command(message.op, &message.peer)
         }
-        Ok(())
+        NlOp::PeerDump => Ok(Command::PeerDump),
+        NlOp::KeyNew | NlOp::KeyGet | NlOp::KeySwap | NlOp::KeyDel => {
+            key_command(message.op, &message.keyconf)
+        }
     }
 }

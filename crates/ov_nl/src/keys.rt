@@ -3,10 +3,11 @@
 ghost use Rattle.std.specs.Prelude.{◌≡◌, option_and_then};
 ghost use Rattle.ov_model.specs.Ident.{key_id as key_id_of, peer_id as peer_id_of};
 ghost use Rattle.ov_model.specs.Checked as spec;
+ghost use Rattle.ov_model.specs.declared.netlink.NlOp.TheVariants as op;
 
 use ov_base::Octets;
 use ov_model::{
-    Cipher, Command, Errno, KeyBytes, KeyConf, KeyDir, KeyId, NlKeyConf, NlKeyDir, PeerId,
+    Cipher, Command, Errno, KeyBytes, KeyConf, KeyDir, KeyId, NlKeyConf, NlKeyDir, NlOp, PeerId,
 };
 
 /// The key of AES with these bytes: there are 16, 24 or 32 of them (FIPS 197, section 5).
@@ -131,16 +132,53 @@ fn with_cipher(cipher: Cipher, conf: KeyConf) -> Result<Command, Errno>
 
 /// The command of key-new: `Errno::Invalid` where an attribute is missing or out of range, and else
 /// `Errno::NotSupported` where the cipher isn't AES-GCM.
-pub fn key_command(given: &Option<NlKeyConf>) -> Result<Command, Errno>
-    ensures { result ≡ spec.checked_key given.now }
+fn key_new(conf: &NlKeyConf) -> Result<Command, Errno>
+    ensures { result ≡ spec.checked_keyconf op.KeyNew conf.now }
 {
-    let Some(conf) = given else {
-        return Err(Errno::Invalid);
-    };
-    let (Some(cipher), Some(attributes)) = (conf.cipher, conf_of(conf)) else {
-        return Err(Errno::Invalid);
-    };
+    let cipher = conf.cipher.ok_or(Errno::Invalid)?;
+    let attributes = conf_of(conf).ok_or(Errno::Invalid)?;
     with_cipher(cipher, attributes)
+}
+
+/// The command of key-get.
+fn key_get(conf: &NlKeyConf) -> Result<Command, Errno>
+    ensures { result ≡ spec.checked_keyconf op.KeyGet conf.now }
+{
+    let peer = peer_id(conf.peer_id).ok_or(Errno::Invalid)?;
+    let slot = conf.slot.ok_or(Errno::Invalid)?;
+    Ok(Command::KeyGet(peer, slot))
+}
+
+/// The command of key-swap.
+fn key_swap(conf: &NlKeyConf) -> Result<Command, Errno>
+    ensures { result ≡ spec.checked_keyconf op.KeySwap conf.now }
+{
+    let peer = peer_id(conf.peer_id).ok_or(Errno::Invalid)?;
+    Ok(Command::KeySwap(peer))
+}
+
+/// The command of key-del.
+fn key_del(conf: &NlKeyConf) -> Result<Command, Errno>
+    ensures { result ≡ spec.checked_keyconf op.KeyDel conf.now }
+{
+    let peer = peer_id(conf.peer_id).ok_or(Errno::Invalid)?;
+    let slot = conf.slot.ok_or(Errno::Invalid)?;
+    Ok(Command::KeyDel(peer, slot))
+}
+
+/// The command of an operation on keys: `Errno::Invalid` where an attribute that it needs is missing or out
+/// of range, and of key-new else `Errno::NotSupported` where the cipher isn't AES-GCM.
+pub fn key_command(operation: NlOp, given: &Option<NlKeyConf>) -> Result<Command, Errno>
+    ensures { result ≡ spec.checked_key operation given.now }
+{
+    let conf = given.as_ref().ok_or(Errno::Invalid)?;
+    match operation {
+        NlOp::KeyNew => key_new(conf),
+        NlOp::KeyGet => key_get(conf),
+        NlOp::KeySwap => key_swap(conf),
+        NlOp::KeyDel => key_del(conf),
+        _ => Err(Errno::Invalid),
+    }
 }
 
 #[cfg(test)]
@@ -148,7 +186,7 @@ mod tests {
     use super::*;
     use crate::call_of;
     use ov_base::Memory;
-    use ov_model::{NlMessage, NlOp, Slot};
+    use ov_model::{NlMessage, Slot};
     use std::alloc::Global;
     use std::test::Fail;
 

@@ -3,5 +3,7 @@
 
 pub mod call;
 pub mod keys;
+#[cfg(test)]
+mod tests;
 
 pub use call::call_of;

@@ -59,6 +59,7 @@ unsealed : (via : Addr → Addr) (d : Deed) → unsealed_ids (begins via d) ≡ 
 unsealed via (deed.Netlink m) = unsealed_netlink (checked m)
 unsealed via (deed.Tx packet) = unsealed_tx via (inner_of packet)
 unsealed via (deed.Rx from bytes) = unsealed_rx from (head_of bytes)
+unsealed via (deed.Lost id reason) = refl
 
 pub at_once_unsealed : (via : Addr → Addr) (d : Deed) (a : Answer) → begins via d ≡ at_once a → sealed_ids a ≡ []
 at_once_unsealed via d a e = let same : unsealed_ids (begins via d) ≡ sealed_ids a = ap unsealed_ids e in rw (← same) (unsealed via d)
@@ -68,3 +69,4 @@ pub begins_hop : (via vib : Addr → Addr) (d : Deed) → (AsksHop stage.Fresh d
 begins_hop via vib (deed.Netlink m) own = refl
 begins_hop via vib (deed.Tx packet) own = ap (λ hop. begins_tx hop (inner_of packet)) (own tt)
 begins_hop via vib (deed.Rx from bytes) own = refl
+begins_hop via vib (deed.Lost id reason) own = refl

@@ -62,6 +62,7 @@ draws_released place at (o ∷ os) = draws_released place at os
 
 steps_of_use : (via : Addr → Addr) (place : Place) (at : ℕ) (d : Deed) (h : HoldView) (m : Material) (u : Use) (es : List Event) → steps_in (use_events via place at d h m u ++ es) ≡ (use_row via place at d h m u).steps ++ steps_in es
 steps_of_use via place at (deed.Netlink n) h m u es = refl
+steps_of_use via place at (deed.Lost id reason) h m u es = refl
 steps_of_use via place at (deed.Tx packet) h m (used.Sealed i) es = refl
 steps_of_use via place at (deed.Tx packet) h m (used.Spent killed) es = refl
 steps_of_use via place at (deed.Tx packet) h m used.BadTag es = refl
@@ -75,6 +76,7 @@ steps_of_use via place at (deed.Rx from bytes) h m (used.Settled s) es = refl
 
 judgements_of_use : (via : Addr → Addr) (place : Place) (at : ℕ) (d : Deed) (h : HoldView) (m : Material) (u : Use) (es : List Event) → judgements_in (use_events via place at d h m u ++ es) ≡ (use_row via place at d h m u).judgements ++ judgements_in es
 judgements_of_use via place at (deed.Netlink n) h m u es = refl
+judgements_of_use via place at (deed.Lost id reason) h m u es = refl
 judgements_of_use via place at (deed.Tx packet) h m (used.Sealed i) es = refl
 judgements_of_use via place at (deed.Tx packet) h m (used.Spent killed) es = refl
 judgements_of_use via place at (deed.Tx packet) h m used.BadTag es = refl
@@ -95,6 +97,7 @@ settled_unsealed settled.NotOwner h packet = refl
 -- What a use draws is what it seals.
 draws_of_use : (via : Addr → Addr) (place : Place) (at : ℕ) (d : Deed) (h : HoldView) (m : Material) (u : Use) (es : List Event) → UseFits d m u → draws_in es ≡ [] → draws_in (use_events via place at d h m u ++ es) ≡ sealed_ids (use_row via place at d h m u).answer
 draws_of_use via place at (deed.Netlink n) h m u es fits none = absurd fits
+draws_of_use via place at (deed.Lost id reason) h m u es fits none = absurd fits
 draws_of_use via place at (deed.Tx packet) h m (used.Sealed i) es fits none = rw none refl
 draws_of_use via place at (deed.Tx packet) h m (used.Spent killed) es fits none = none
 draws_of_use via place at (deed.Tx packet) h m used.BadTag es fits none = absurd fits

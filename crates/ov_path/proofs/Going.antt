@@ -85,6 +85,7 @@ pub is_tx : (d : Deed) → PurposeFits d purpose.Seal → Tx d
 is_tx (deed.Tx packet) fits = record { packet = packet; is = refl }
 is_tx (deed.Rx from bytes) fits = absurd fits
 is_tx (deed.Netlink m) fits = absurd fits
+is_tx (deed.Lost id reason) fits = absurd fits
 
 -- The first owed release and the others.
 pub first_is : (o : Owed) (os : List Owed) → first_owed os ≡ Some o → os ≡ o ∷ after_first os
@@ -395,11 +396,13 @@ rx_begins : (via vib : Addr → Addr) (d : Deed) (id : ℕ) → PurposeFits d (p
 rx_begins via vib (deed.Rx from bytes) id fits = refl
 rx_begins via vib (deed.Tx packet) id fits = absurd fits
 rx_begins via vib (deed.Netlink m) id fits = absurd fits
+rx_begins via vib (deed.Lost peer reason) id fits = absurd fits
 
 opens_begins : (via vib : Addr → Addr) (place : Place) (at : ℕ) (h : HoldView) (d : Deed) (m : Material) (later : List Event) (packet : List ℕ) → Opens place at h d m later packet → begins vib d ≡ begins via d
 opens_begins via vib place at h (deed.Rx from bytes) m later packet opens = refl
 opens_begins via vib place at h (deed.Tx p) m later packet opens = absurd opens
 opens_begins via vib place at h (deed.Netlink n) m later packet opens = absurd opens
+opens_begins via vib place at h (deed.Lost id reason) m later packet opens = absurd opens
 
 held_asks : {via vib : Addr → Addr} {place : Place} {line : Line} {w : View} {h : HoldView} {m : Material} {later : List Event} → begins vib line.deed ≡ begins via line.deed → Held via place line w h m later → Held vib place line w h m later
 held_asks same t = record { look = t.look; begins_so = same ∙ t.begins_so; has = t.has; events = t.events }

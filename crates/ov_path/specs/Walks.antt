@@ -68,6 +68,7 @@ abbrev pub use_events : (Addr → Addr) → Place → ℕ → Deed → HoldView 
 use_events via place at (deed.Tx packet) h m u = tx_events place at h packet u
 use_events via place at (deed.Rx from bytes) h m u = rx_events via place at h (packet_in (deed.Rx from bytes) m) bytes u
 use_events via place at (deed.Netlink n) h m u = []
+use_events via place at (deed.Lost id reason) h m u = []
 
 -- A received datagram opens as a packet, and its verdict so far is an event.
 abbrev pub Opens : Place → ℕ → HoldView → Deed → Material → (later : List Event) → (packet : List ℕ) → Type 0

@@ -24,7 +24,8 @@ pub enum Begun {
 }
 
 /// How a line begins at a desk: a netlink message with the command that the attribute checks make of it, a
-/// packet to be sent with the look-up of its next hop, a datagram with the look-up by its head.
+/// packet to be sent with the look-up of its next hop, a datagram with the look-up by its head, a lost
+/// transport with the removal of its peer.
 pub fn begin_of<D: Desk>(desk: &D, deed: &Deed) -> Begun
     ensures look { LooksOnly deed.now result }
     ensures begins { begin_told result ≡ begins (D.view desk.now).via deed.now }
@@ -33,6 +34,7 @@ pub fn begin_of<D: Desk>(desk: &D, deed: &Deed) -> Begun
         Deed::Netlink(message) => begin_netlink(message.get()),
         Deed::Tx(packet) => begin_tx(desk, packet.as_slice()),
         Deed::Rx { from, datagram } => begin_rx(*from, datagram.as_slice()),
+        Deed::Lost { id, reason } => Begun::Command(Command::Remove(*id, *reason)),
     }
 }
 

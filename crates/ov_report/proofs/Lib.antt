@@ -12,6 +12,8 @@ pub mod Counting
 pub mod Sets
 -- The texts of a report's lines as the pieces that they are put together of.
 pub mod Lines
+-- What peer-get shows of a peer, as the pieces that it is put together of.
+pub mod Viewed
 -- Digits and addresses have no character that a JSON text escapes.
 pub mod Plain
 -- The digits of bytes, sixteen bytes at a time.

@@ -1,10 +1,11 @@
 -- The texts of a report's lines as the pieces that they are put together of.
 use Rattle.std.proofs.Common.{ℕ, ◌≡◌, ◌∙◌, List, ◌++◌, refl, sym, ap, append_assoc}
-use Rattle.std.specs.Prelude.{codes, decimal, Result, OnOk}
+use Rattle.std.specs.Prelude.{codes, decimal, map, false, Result, OnOk}
 use Rattle.std.proofs.lemmas.Result.{on_ok_weaker}
 use Rattle.json.specs.Print.{escape}
 use Rattle.hex.specs.Hex.{encode_lower}
-use Rattle.serde_json.specs.Written.{compact_text}
+use Rattle.serde_json.specs.View.{items_of}
+use Rattle.serde_json.specs.Written.{compact_text, items_text}
 use Rattle.serde_json.proofs.OnLiterals.{serde_json_on_literals}
 use Rattle.ov_model.specs.declared.act.Act.{Act}
 use Rattle.ov_model.specs.declared.act.Act.TheVariants as act
@@ -18,6 +19,11 @@ use Rattle.ov_model.specs.declared.entry.Entry.{Entry}
 use Rattle.ov_model.specs.declared.ident.PeerId.{PeerId}
 use Rattle.ov_model.specs.declared.reply.Errno.{Errno}
 use Rattle.ov_model.specs.declared.reply.HoldView.{HoldView}
+use Rattle.ov_model.specs.declared.command.Slot.{Slot}
+use Rattle.ov_model.specs.declared.command.Slot.TheVariants as slot
+use Rattle.ov_model.specs.declared.netlink.Cipher.{Cipher}
+use Rattle.ov_model.specs.declared.netlink.Cipher.TheVariants as cipher
+use Rattle.ov_model.specs.declared.reply.KeyView.{KeyView}
 use Rattle.ov_model.specs.declared.reply.PeerView.{PeerView}
 use Rattle.ov_model.specs.declared.reply.Settled.{Settled}
 use Rattle.ov_model.specs.declared.reply.Settled.TheVariants as settled
@@ -26,7 +32,7 @@ use Rattle.ov_model.specs.declared.reply.Reply.TheVariants as reply
 use Rattle.ov_model.specs.declared.replay.Verdict.{Verdict}
 use Rattle.ov_model.specs.declared.replay.Verdict.TheVariants as verdict
 use Rattle.ov_model.specs.declared.replay.ReplayEntry.{ReplayEntry}
-use Rattle.ov_report.specs.Print.{call_name, settled_name, verdict_name, errno_number, reply_text, reply_data, entry_data, entry_text, replay_data, replay_text, cause_name, addr_text, sealed_members, given_text, answered_data, answer_text}
+use Rattle.ov_report.specs.Print.{call_name, slot_name, cipher_name, view_data, settled_name, verdict_name, errno_number, reply_text, reply_data, entry_data, entry_text, replay_data, replay_text, cause_name, addr_text, sealed_members, given_text, answered_data, answer_text}
 
 -- Two pieces at the end of a page, one after the other.
 pub joined : (page mid new front back : List ℕ) → mid ≡ page ++ front → new ≡ mid ++ back → new ≡ page ++ (front ++ back)
@@ -41,9 +47,14 @@ kept_on r new page piece text put is = on_ok_weaker r (λ (at_end : new ≡ page
 call_plain : (a : Act) → escape (call_name a) ≡ call_name a
 unfolding serde_json_on_literals
 call_plain (act.Do (command.PeerNew a)) = refl
+call_plain (act.Do (command.PeerSet a)) = refl
 call_plain (act.Do (command.PeerGet id)) = refl
+call_plain (act.Do command.PeerDump) = refl
 call_plain (act.Do (command.Remove id r)) = refl
 call_plain (act.Do (command.KeyNew c)) = refl
+call_plain (act.Do (command.KeyGet id slot)) = refl
+call_plain (act.Do (command.KeySwap id)) = refl
+call_plain (act.Do (command.KeyDel id slot)) = refl
 call_plain (act.TxLook addr) = refl
 call_plain (act.RxLook id key_id from) = refl
 call_plain (act.Sent peer inner outer ping) = refl
@@ -105,9 +116,28 @@ pub already_gone_text : reply_text reply.AlreadyGone ≡ codes "{\"spend\":\"alr
 unfolding serde_json_on_literals reply_text
 already_gone_text = refl
 
-pub peer_text : (v : PeerView) → reply_text (reply.Peer v) ≡ compact_text (reply_data (reply.Peer v))
-unfolding reply_text
-peer_text v = refl
+slot_plain : (s : Slot) → escape (slot_name s) ≡ slot_name s
+unfolding serde_json_on_literals
+slot_plain slot.Primary = refl
+slot_plain slot.Secondary = refl
+
+cipher_plain : (c : Cipher) → escape (cipher_name c) ≡ cipher_name c
+unfolding serde_json_on_literals
+cipher_plain cipher.NoCipher = refl
+cipher_plain cipher.AesGcm = refl
+cipher_plain cipher.ChaCha20Poly1305 = refl
+
+pub peer_pieces : (v : PeerView) → reply_text (reply.Peer v) ≡ codes "{\"peer\":" ++ (compact_text (view_data v) ++ codes "}")
+unfolding serde_json_on_literals reply_text
+peer_pieces v = refl
+
+pub peers_pieces : (vs : List PeerView) → reply_text (reply.Peers vs) ≡ codes "{\"peers\":[" ++ (items_text false (items_of (map view_data vs)) ++ codes "}")
+unfolding serde_json_on_literals reply_text
+peers_pieces vs = refl
+
+pub key_pieces : (k : KeyView) → reply_text (reply.Key k) ≡ (codes "{\"key\":{\"cipher-alg\":\"" ++ cipher_name k.cipher) ++ ((codes "\",\"key-id\":" ++ decimal k.key_id.number) ++ ((codes ",\"peer-id\":" ++ decimal k.peer.number) ++ ((codes ",\"slot\":\"" ++ slot_name k.slot) ++ codes "\"}}")))
+unfolding serde_json_on_literals reply_text
+key_pieces k = simp (cipher_plain k.cipher, slot_plain k.slot, append_assoc)
 
 pub removed_text : (ns : List ℕ) → reply_text (reply.Removed ns) ≡ compact_text (reply_data (reply.Removed ns))
 unfolding reply_text

@@ -1,4 +1,5 @@
 pub mod Print
+pub mod Views
 pub mod Summary
 pub mod Sealing
 pub mod Printing

@@ -13,6 +13,10 @@ use Rattle.ov_model.specs.declared.act.Act.{Act}
 use Rattle.ov_model.specs.declared.act.Act.TheVariants as act
 use Rattle.ov_model.specs.declared.command.Command.TheVariants as command
 use Rattle.ov_model.specs.declared.ident.PeerId.{PeerId}
+use Rattle.ov_model.specs.declared.command.Slot.{Slot}
+use Rattle.ov_model.specs.declared.command.Slot.TheVariants as slot
+use Rattle.ov_model.specs.declared.netlink.Cipher.{Cipher}
+use Rattle.ov_model.specs.declared.netlink.Cipher.TheVariants as cipher
 use Rattle.ov_model.specs.declared.command.Reason.{Reason}
 use Rattle.ov_model.specs.declared.command.Reason.TheVariants as reason
 use Rattle.ov_model.specs.declared.entry.Entry.{Entry}
@@ -20,6 +24,7 @@ use Rattle.ov_model.specs.declared.reply.Errno.{Errno}
 use Rattle.ov_model.specs.declared.reply.Errno.TheVariants.{NoEntry, Exists, Invalid, NoSpace, NotSupported}
 use Rattle.ov_model.specs.declared.reply.Counts.{Counts}
 use Rattle.ov_model.specs.declared.reply.PeerView.{PeerView}
+use Rattle.ov_model.specs.declared.reply.KeyView.{KeyView}
 use Rattle.ov_model.specs.declared.reply.HoldView.{HoldView}
 use Rattle.ov_model.specs.declared.reply.Settled.{Settled}
 use Rattle.ov_model.specs.declared.reply.Settled.TheVariants as settled
@@ -64,9 +69,14 @@ line_text d = compact_text d ++ 10 ∷ []
 -- The names of the operations and of the table's own steps.
 abbrev pub call_name : Act → List ℕ
 call_name (act.Do (command.PeerNew a)) = codes "peer-new"
+call_name (act.Do (command.PeerSet a)) = codes "peer-set"
 call_name (act.Do (command.PeerGet id)) = codes "peer-get"
+call_name (act.Do command.PeerDump) = codes "peer-dump"
 call_name (act.Do (command.Remove id r)) = codes "remove"
 call_name (act.Do (command.KeyNew c)) = codes "key-new"
+call_name (act.Do (command.KeyGet id slot)) = codes "key-get"
+call_name (act.Do (command.KeySwap id)) = codes "key-swap"
+call_name (act.Do (command.KeyDel id slot)) = codes "key-del"
 call_name (act.TxLook addr) = codes "tx-look"
 call_name (act.RxLook id key_id from) = codes "rx-look"
 call_name (act.Sent peer inner outer ping) = codes "sent"
@@ -133,6 +143,29 @@ view_members v =
     (put_num (codes "id") v.id.number
     (put_counts v.counts no_members))))))
 
+-- What peer-get shows, as a JSON object.
+abbrev pub view_data : PeerView → Data
+view_data v = object (view_members v)
+
+-- The slots, as the netlink family names them (`key-slot`).
+abbrev pub slot_name : Slot → List ℕ
+slot_name slot.Primary = codes "primary"
+slot_name slot.Secondary = codes "secondary"
+
+-- The ciphers, as the netlink family names them (`cipher-alg`).
+abbrev pub cipher_name : Cipher → List ℕ
+cipher_name cipher.NoCipher = codes "none"
+cipher_name cipher.AesGcm = codes "aes-gcm"
+cipher_name cipher.ChaCha20Poly1305 = codes "chacha20-poly1305"
+
+-- What key-get shows: no byte of the key.
+abbrev pub key_members : KeyView → Members
+key_members k =
+    put_text (codes "slot") (slot_name k.slot)
+    (put_num (codes "peer-id") k.peer.number
+    (put_num (codes "key-id") k.key_id.number
+    (put_text (codes "cipher-alg") (cipher_name k.cipher) no_members)))
+
 -- What a look-up holds: the serials of the key and of the peer.
 abbrev pub hold_members : HoldView → Members
 hold_members h = put_num (codes "peer") h.peer (put_num (codes "key") h.key no_members)
@@ -148,7 +181,9 @@ settled_name settled.NotOwner = codes "not-owner"
 abbrev pub reply_data : Reply → Data
 reply_data (reply.Made n) = one (codes "serial") (num n)
 reply_data reply.Done = one (codes "ok") (boolean true)
-reply_data (reply.Peer v) = one (codes "peer") (object (view_members v))
+reply_data (reply.Peer v) = one (codes "peer") (view_data v)
+reply_data (reply.Peers vs) = one (codes "peers") (array (items_of (map view_data vs)))
+reply_data (reply.Key k) = one (codes "key") (object (key_members k))
 reply_data (reply.Removed ns) = one (codes "removed") (nums ns)
 reply_data (reply.Hold h) = one (codes "hold") (object (hold_members h))
 reply_data reply.NoPeer = one (codes "none") (string (codes "no-peer"))

@@ -32,7 +32,7 @@ fn append_octet(page: &mut Vec<u8>, front: &[u8], octet: u8) -> Result<(), Memor
 }
 
 /// Puts an IPv4 address in dotted decimal (RFC 791 names the octets; the text is the usual one).
-fn append_ipv4(page: &mut Vec<u8>, octets: [u8; 4]) -> Result<(), Memory>
+pub(crate) fn append_ipv4(page: &mut Vec<u8>, octets: [u8; 4]) -> Result<(), Memory>
     ensures text { OnOk result (page.new.items ≡ page.old.items ++ ipv4_text octets) }
     ensures plain { OnOk result (escape (ipv4_text octets) ≡ ipv4_text octets) }
 {

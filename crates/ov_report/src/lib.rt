@@ -19,6 +19,7 @@ pub mod summary;
 #[cfg(test)]
 mod tests;
 pub mod text;
+mod view;
 
 pub use answer::answer_line;
 pub use differ::keys_differ;

@@ -1,16 +1,13 @@
 //! The members of a JSON object, put one by one; serde_json's map keeps them in ascending byte order.
 
 ghost use Rattle.std.specs.Prelude.{◌≡◌, OnOk, IfOk};
-ghost use Rattle.std.specs.Net.Text.{ipv4_text};
 ghost use Rattle.serde_json.specs.Data.{object, put as with_member};
 ghost use Rattle.serde_json.specs.View.{view, members_view};
-ghost use Rattle.hex.specs.Hex.{encode_lower};
 ghost use Rattle.ov_report.specs.Print as spec;
 
 use ov_base::Memory;
 use serde_json::{Map, Value, put};
 use std::alloc::Global;
-use std::net::Ipv4Addr;
 
 /// An object's members, in making.
 pub type Members = Map<String, Value>;
@@ -75,30 +72,4 @@ pub fn numbers(alloc: Global, serials: &[u32]) -> Result<Value, Memory>
         items.push(Value::from(*serial))?;
     }
     Ok(Value::Array(items))
-}
-
-/// An IPv4 address in dotted decimal (RFC 791 names the octets; the text is the usual one).
-pub fn put_ipv4(
-    members: &mut Members,
-    alloc: Global,
-    name: &str,
-    octets: [u8; 4],
-) -> Result<(), Memory>
-    ensures { OnOk result (members_view members.new.entries ≡ spec.put_text name.now (ipv4_text octets) (members_view members.old.entries)) }
-{
-    let text = Ipv4Addr::from_octets(octets).to_string(alloc)?;
-    put_text(members, alloc, name, text.as_str())
-}
-
-/// An IPv6 address as its 32 hexadecimal digits, in lower case.
-pub fn put_ipv6(
-    members: &mut Members,
-    alloc: Global,
-    name: &str,
-    octets: [u8; 16],
-) -> Result<(), Memory>
-    ensures { OnOk result (members_view members.new.entries ≡ spec.put_text name.now (encode_lower octets) (members_view members.old.entries)) }
-{
-    let text = hex::encode(alloc, octets)?;
-    put_text(members, alloc, name, text.as_str())
 }

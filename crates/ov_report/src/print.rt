@@ -19,9 +19,14 @@ fn call_name(act: &Act) -> &'static str
 {
     match act {
         Act::Do(Command::PeerNew(_)) => "peer-new",
+        Act::Do(Command::PeerSet(_)) => "peer-set",
         Act::Do(Command::PeerGet(_)) => "peer-get",
+        Act::Do(Command::PeerDump) => "peer-dump",
         Act::Do(Command::Remove(_, _)) => "remove",
         Act::Do(Command::KeyNew(_)) => "key-new",
+        Act::Do(Command::KeyGet(_, _)) => "key-get",
+        Act::Do(Command::KeySwap(_)) => "key-swap",
+        Act::Do(Command::KeyDel(_, _)) => "key-del",
         Act::TxLook(_) => "tx-look",
         Act::RxLook { .. } => "rx-look",
         Act::Sent { .. } => "sent",

@@ -1,9 +1,9 @@
 use crate::{answer_line, entry_line, note_line, replay_line};
 use ov_base::{Addr, Boxed, ListOf, Memory, Octets, Transport};
 use ov_model::{
-    Act, Answer, Attrs, Call, Command, Counts, DropCause, Entry, Errno, HoldView, InnerKind,
-    Keepalive, KeyBytes, KeyConf, KeyDir, KeyId, Note, NoteBody, PeerId, PeerView, Place, Reason,
-    ReplayEntry, Reply, SealedOut, Settled, Slot, Verdict,
+    Act, Answer, Attrs, Call, Cipher, Command, Counts, DropCause, Entry, Errno, HoldView, InnerKind,
+    Keepalive, KeyBytes, KeyConf, KeyDir, KeyId, KeyView, Note, NoteBody, PeerId, PeerView, Place,
+    Reason, ReplayEntry, Reply, SealedOut, Settled, Slot, Verdict,
 };
 use std::alloc::Global;
 use std::test::Fail;
@@ -47,6 +47,12 @@ fn answers_have_their_texts(rt: HostRuntime) -> Result<(), Fail> {
         key_id,
         to: four,
     };
+    let view = KeyView {
+        peer,
+        slot: Slot::Secondary,
+        key_id,
+        cipher: Cipher::AesGcm,
+    };
     let rows = [
         (
             Answer::Reply(Reply::Made(0)),
@@ -87,6 +93,10 @@ fn answers_have_their_texts(rt: HostRuntime) -> Result<(), Fail> {
         (
             Answer::Reply(Reply::Settled(Settled::NotOwner)),
             "{\"answer\":{\"settled\":\"not-owner\"},\"lane\":1,\"line\":3}\n",
+        ),
+        (
+            Answer::Reply(Reply::Key(view)),
+            "{\"answer\":{\"key\":{\"cipher-alg\":\"aes-gcm\",\"key-id\":2,\"peer-id\":5,\"slot\":\"secondary\"}},\"lane\":1,\"line\":3}\n",
         ),
         (
             Answer::Reply(Reply::Killed),
@@ -247,12 +257,32 @@ fn entries_have_their_calls(rt: HostRuntime) -> Result<(), Fail> {
             "{\"at\":0,\"call\":\"peer-get\",\"journal\":3,\"lane\":0,\"line\":2,\"reply\":{\"key-released\":0}}\n",
         ),
         (
+            Act::Do(Command::PeerSet(attrs)),
+            "{\"at\":0,\"call\":\"peer-set\",\"journal\":3,\"lane\":0,\"line\":2,\"reply\":{\"key-released\":0}}\n",
+        ),
+        (
+            Act::Do(Command::PeerDump),
+            "{\"at\":0,\"call\":\"peer-dump\",\"journal\":3,\"lane\":0,\"line\":2,\"reply\":{\"key-released\":0}}\n",
+        ),
+        (
             Act::Do(Command::Remove(peer, Reason::Userspace)),
             "{\"at\":0,\"call\":\"remove\",\"journal\":3,\"lane\":0,\"line\":2,\"reply\":{\"key-released\":0}}\n",
         ),
         (
             Act::Do(Command::KeyNew(conf)),
             "{\"at\":0,\"call\":\"key-new\",\"journal\":3,\"lane\":0,\"line\":2,\"reply\":{\"key-released\":0}}\n",
+        ),
+        (
+            Act::Do(Command::KeyGet(peer, Slot::Primary)),
+            "{\"at\":0,\"call\":\"key-get\",\"journal\":3,\"lane\":0,\"line\":2,\"reply\":{\"key-released\":0}}\n",
+        ),
+        (
+            Act::Do(Command::KeySwap(peer)),
+            "{\"at\":0,\"call\":\"key-swap\",\"journal\":3,\"lane\":0,\"line\":2,\"reply\":{\"key-released\":0}}\n",
+        ),
+        (
+            Act::Do(Command::KeyDel(peer, Slot::Secondary)),
+            "{\"at\":0,\"call\":\"key-del\",\"journal\":3,\"lane\":0,\"line\":2,\"reply\":{\"key-released\":0}}\n",
         ),
         (
             Act::TxLook(Addr::V4([10, 8, 0, 5])),
@@ -340,6 +370,61 @@ fn a_shown_peer_has_its_fourteen_names(rt: HostRuntime) -> Result<(), Fail> {
     let text =
         "{\"answer\":{\"peer\":{\"id\":5,\"keepalive-interval\":0,\"keepalive-timeout\":0,\"link-rx-bytes\":0,\"link-rx-packets\":0,\"link-tx-bytes\":0,\"link-tx-packets\":0,\"remote-ipv4\":\"192.0.2.1\",\"remote-port\":1194,\"vpn-ipv4\":\"10.8.0.5\",\"vpn-rx-bytes\":0,\"vpn-rx-packets\":0,\"vpn-tx-bytes\":0,\"vpn-tx-packets\":0}},\"lane\":0,\"line\":1}\n";
     assert!(rt; line.as_slice() == text.as_bytes());
+    Ok(())
+}
+
+/// A peer with this id whose numbers are all different.
+fn view_of(id: PeerId) -> PeerView {
+    PeerView {
+        id,
+        remote: Transport {
+            addr: Addr::V6([0xfd, 0, 0, 0, 0, 0, 0, 0, 0, 0, 0, 0, 0, 0, 0, 0xab]),
+            port: 65535,
+        },
+        vpn4: None,
+        vpn6: None,
+        keepalive: Keepalive {
+            interval: 10,
+            timeout: 60,
+        },
+        counts: Counts {
+            vpn_rx_bytes: 105,
+            vpn_rx_packets: 6,
+            vpn_tx_bytes: 107,
+            vpn_tx_packets: 8,
+            link_rx_bytes: 101,
+            link_rx_packets: 2,
+            link_tx_bytes: 103,
+            link_tx_packets: 18446744073709551615,
+        },
+    }
+}
+
+#[test]
+fn a_dump_has_the_views_between_commas(rt: HostRuntime) -> Result<(), Fail> {
+    let (Some(five), Some(six)) = (PeerId::new(5), PeerId::new(16777215)) else {
+        panic!(rt; "ids in range");
+    };
+    let mut first = view_of(five);
+    first.vpn4 = Some([10, 8, 0, 255]);
+    first.vpn6 = Some([0xfd, 0, 0, 0, 0, 0, 0, 0, 0, 0, 0, 0, 0, 0, 0, 5]);
+    let mut second = view_of(six);
+    second.remote = first_remote();
+    second.vpn6 = Some([0xfd, 0, 0, 0, 0, 0, 0, 0, 0, 0, 0, 0, 0, 0, 0, 6]);
+    let texts = [
+        "{\"answer\":{\"peers\":[]},\"lane\":0,\"line\":1}\n",
+        "{\"answer\":{\"peers\":[{\"id\":5,\"keepalive-interval\":10,\"keepalive-timeout\":60,\"link-rx-bytes\":101,\"link-rx-packets\":2,\"link-tx-bytes\":103,\"link-tx-packets\":18446744073709551615,\"remote-ipv6\":\"fd0000000000000000000000000000ab\",\"remote-port\":65535,\"vpn-ipv4\":\"10.8.0.255\",\"vpn-ipv6\":\"fd000000000000000000000000000005\",\"vpn-rx-bytes\":105,\"vpn-rx-packets\":6,\"vpn-tx-bytes\":107,\"vpn-tx-packets\":8}]},\"lane\":0,\"line\":1}\n",
+        "{\"answer\":{\"peers\":[{\"id\":5,\"keepalive-interval\":10,\"keepalive-timeout\":60,\"link-rx-bytes\":101,\"link-rx-packets\":2,\"link-tx-bytes\":103,\"link-tx-packets\":18446744073709551615,\"remote-ipv6\":\"fd0000000000000000000000000000ab\",\"remote-port\":65535,\"vpn-ipv4\":\"10.8.0.255\",\"vpn-ipv6\":\"fd000000000000000000000000000005\",\"vpn-rx-bytes\":105,\"vpn-rx-packets\":6,\"vpn-tx-bytes\":107,\"vpn-tx-packets\":8},{\"id\":16777215,\"keepalive-interval\":10,\"keepalive-timeout\":60,\"link-rx-bytes\":101,\"link-rx-packets\":2,\"link-tx-bytes\":103,\"link-tx-packets\":18446744073709551615,\"remote-ipv4\":\"192.0.2.1\",\"remote-port\":1194,\"vpn-ipv6\":\"fd000000000000000000000000000006\",\"vpn-rx-bytes\":105,\"vpn-rx-packets\":6,\"vpn-tx-bytes\":107,\"vpn-tx-packets\":8}]},\"lane\":0,\"line\":1}\n",
+    ];
+    let shown = [first, second];
+    for (count, text) in texts.iter().enumerate() {
+        let mut peers = ListOf::new(rt.alloc());
+        for view in &shown[..count] {
+            assert!(rt; peers.push(*view).is_ok());
+        }
+        let line = answer_line(rt.alloc(), 0, 1, &Answer::Reply(Reply::Peers(peers)))?;
+        assert!(rt; line.as_slice() == text.as_bytes(), "{count} peers");
+    }
     Ok(())
 }
 

@@ -62,9 +62,14 @@ same_keys journal t after e none old holds = record {
 
 none_of : (a : Act) (r : Reply) → NoNewKey a → (key : ℕ) → key_by a r key ≡ None
 none_of (act.Do (command.PeerNew a)) r new key = refl
+none_of (act.Do (command.PeerSet a)) r new key = refl
 none_of (act.Do (command.PeerGet id)) r new key = refl
+none_of (act.Do command.PeerDump) r new key = refl
 none_of (act.Do (command.Remove id reason)) r new key = refl
 none_of (act.Do (command.KeyNew c)) r new key = absurd new
+none_of (act.Do (command.KeyGet id slot)) r new key = refl
+none_of (act.Do (command.KeySwap id)) r new key = refl
+none_of (act.Do (command.KeyDel id slot)) r new key = refl
 none_of (act.TxLook a) r new key = refl
 none_of (act.RxLook id key_id from) r new key = refl
 none_of (act.Sent peer inner outer ping) r new key = refl
@@ -114,9 +119,14 @@ key_act journal t now place at c r is old =
 
 each_act : (journal : List Entry) (t : Table) (now : ℕ) (place : Place) (at : ℕ) (a : Act) (r : Reply) → r ≡ (act_step t now a).reply → Installed journal t → Installed (journal ++ record { place = place; call = record { at = at; act = a }; reply = r } ∷ []) (act_step t now a).after
 each_act journal t now place at (act.Do (command.PeerNew a)) r is old = other_act journal t now place at (act.Do (command.PeerNew a)) r tt old
+each_act journal t now place at (act.Do (command.PeerSet a)) r is old = other_act journal t now place at (act.Do (command.PeerSet a)) r tt old
 each_act journal t now place at (act.Do (command.PeerGet id)) r is old = other_act journal t now place at (act.Do (command.PeerGet id)) r tt old
+each_act journal t now place at (act.Do command.PeerDump) r is old = other_act journal t now place at (act.Do command.PeerDump) r tt old
 each_act journal t now place at (act.Do (command.Remove id reason)) r is old = other_act journal t now place at (act.Do (command.Remove id reason)) r tt old
 each_act journal t now place at (act.Do (command.KeyNew c)) r is old = key_act journal t now place at c r is old
+each_act journal t now place at (act.Do (command.KeyGet id slot)) r is old = other_act journal t now place at (act.Do (command.KeyGet id slot)) r tt old
+each_act journal t now place at (act.Do (command.KeySwap id)) r is old = other_act journal t now place at (act.Do (command.KeySwap id)) r tt old
+each_act journal t now place at (act.Do (command.KeyDel id slot)) r is old = other_act journal t now place at (act.Do (command.KeyDel id slot)) r tt old
 each_act journal t now place at (act.TxLook a) r is old = other_act journal t now place at (act.TxLook a) r tt old
 each_act journal t now place at (act.RxLook id key_id from) r is old = other_act journal t now place at (act.RxLook id key_id from) r tt old
 each_act journal t now place at (act.Sent peer inner outer ping) r is old = other_act journal t now place at (act.Sent peer inner outer ping) r tt old

@@ -1,5 +1,5 @@
 -- What holds of each key that a table has, holds of each that it has after a step, but for a new key.
-use Rattle.std.proofs.Common.{ℕ, ◌≡◌, ◌+◌, [], ◌∷◌, refl, Bool, true, false, if◌then◌else◌, ◌==◌}
+use Rattle.std.proofs.Common.{ℕ, ◌≡◌, ◌+◌, List, [], ◌∷◌, refl, Bool, true, false, if◌then◌else◌, ◌==◌}
 use Rattle.std.specs.Prelude.{Option, Some, None}
 use Rattle.std.specs.List.{AllByRecursion}
 use Rattle.ov_base.specs.declared.address.Transport.{Transport}
@@ -16,9 +16,9 @@ use Rattle.ov_model.specs.declared.reply.Reply.{Reply}
 use Rattle.ov_model.specs.declared.reply.Reply.TheVariants as reply
 use Rattle.ov_model.specs.declared.reply.Errno.{Errno}
 use Rattle.ov_model.specs.declared.reply.Errno.TheVariants.{NoEntry}
-use Rattle.ov_model.specs.Tables.{Peer, Key, Slots, Table, no_keys, in_slot, with_slot, key_if_any, keys_in, keys_of, is_key, without_key, has_id, has_serial, by_key, by_id, by_serial, by_vpn, by_key_id}
+use Rattle.ov_model.specs.Tables.{Peer, Key, Slots, Table, no_keys, in_slot, with_slot, swapped, key_if_any, keys_in, keys_of, is_key, without_key, has_id, has_serial, by_key, by_id, by_serial, by_vpn, by_key_id}
 use Rattle.ov_model.specs.Step as model
-use Rattle.ov_model.specs.Step.{peer_new, peer_get, remove_peer, key_new, tx_look, rx_look, sent, settle, spend, released, key_released}
+use Rattle.ov_model.specs.Step.{peer_new, peer_set, peer_get, peer_dump, remove_peer, key_new, key_get, key_swap, key_del, tx_look, rx_look, sent, settle, spend, released, key_released}
 use Rattle.ov_model.proofs.Firsts.{all_found, all_without, all_changed}
 use Rattle.ov_model.proofs.Lanes.{all_append}
 use Rattle.ov_model.proofs.Shapes.{Kept, settle_kept}
@@ -125,6 +125,40 @@ spend_keeps P n t now peer key h =
     let one : P k = all_found P (λ x. x.serial == key) (keys_in p.slots) k has (slots_all P p.slots (all_found Q (has_serial peer) t.live p found h.live)) in
     record { holds = record { count = h.count; live = all_changed Q (has_serial peer) (λ q. record q { slots = without_key key q.slots }) t.live (λ q s. without_holds P key q.slots s) h.live; retired = all_append P t.retired (k ∷ []) h.retired (one, tt) } }))
 
+-- peer-set leaves the slots as they are.
+set_keeps : (P : Key → Type 0) (n : ℕ) (t : Table) (now : ℕ) (a : Attrs) → Holds P n t → Keeps P n (peer_set t now a)
+unfolding peer_set
+set_keeps P n t now a h = found_has (Keeps P n) t now _ (by_id a.id t.live) _ (plain P n t now _ h) (λ p found.
+    unless_has (Keeps P n) t now (model.peer_set_checks t a) (model.peer_changed t now a) (λ e. plain P n t now (reply.Refused e) h)
+    (record { holds = record { count = h.count; live = all_changed (λ q. SlotsHold P q.slots) (has_id a.id) (model.set_peer now a) t.live (λ q s. s) h.live; retired = h.retired } }))
+
+-- A change of slots that gives no new key, and the keys that it takes out.
+slots_keep : (P : Key → Type 0) (n : ℕ) (t : Table) (now : ℕ) (id : PeerId) (change : Slots → Slots) (out : List Key) → ((s : Slots) → SlotsHold P s → SlotsHold P (change s)) → AllByRecursion P out → Holds P n t → Keeps P n (model.slots_changed t now id change out)
+slots_keep P n t now id change out keeps gone h = record {
+  holds = record {
+    count = h.count;
+    live = all_changed (λ q. SlotsHold P q.slots) (has_id id) (model.with_slots change) t.live (λ q s. keeps q.slots s) h.live;
+    retired = all_append P t.retired out h.retired gone;
+  };
+}
+
+swap_keeps : (P : Key → Type 0) (n : ℕ) (t : Table) (now : ℕ) (id : PeerId) → Holds P n t → Keeps P n (key_swap t now id)
+unfolding key_swap
+swap_keeps P n t now id h = found_has (Keeps P n) t now _ (by_id id t.live) _ (plain P n t now _ h)
+    (λ p found. slots_keep P n t now id swapped [] (λ s holds. record { primary = holds.secondary; secondary = holds.primary }) tt h)
+
+emptied_holds : (P : Key → Type 0) (slot : Slot) (s : Slots) → SlotsHold P s → SlotsHold P (with_slot slot None s)
+emptied_holds P Primary s h = record { primary = tt; secondary = h.secondary }
+emptied_holds P Secondary s h = record { primary = h.primary; secondary = tt }
+
+del_keeps : (P : Key → Type 0) (n : ℕ) (t : Table) (now : ℕ) (id : PeerId) (slot : Slot) → Holds P n t → Keeps P n (key_del t now id slot)
+unfolding key_del
+del_keeps P n t now id slot h =
+    let Q : Peer → Type 0 = λ q. SlotsHold P q.slots in
+    found_has (Keeps P n) t now _ (by_id id t.live) _ (plain P n t now _ h)
+    (λ p found. slots_keep P n t now id (with_slot slot None) (key_if_any (in_slot slot p.slots)) (emptied_holds P slot)
+    (one_all P (in_slot slot p.slots) (in_slot_holds P slot p.slots (all_found Q (has_id id) t.live p found h.live))) h)
+
 -- ---- every act
 
 -- Whether an act is anything but a key-new.
@@ -133,11 +167,16 @@ NoNewKey (act.Do (command.KeyNew c)) = ⊥
 NoNewKey _ = Unit {0}
 
 pub act_keeps : (P : Key → Type 0) (n : ℕ) (t : Table) (now : ℕ) (a : Act) → NoNewKey a → Holds P n t → Keeps P n (model.act_step t now a)
-unfolding peer_new peer_get tx_look rx_look sent settle released key_released
+unfolding peer_new peer_get peer_dump key_get tx_look rx_look sent settle released key_released
 act_keeps P n t now (act.Do (command.PeerNew a)) new h = found_has (Keeps P n) t now _ a.remote _ (plain P n t now _ h) (λ remote is. new_keeps P n t now a remote h)
+act_keeps P n t now (act.Do (command.PeerSet a)) new h = set_keeps P n t now a h
 act_keeps P n t now (act.Do (command.PeerGet id)) new h = found_has (Keeps P n) t now _ (by_id id t.live) _ (plain P n t now _ h) (λ p found. plain P n t now _ h)
+act_keeps P n t now (act.Do command.PeerDump) new h = plain P n t now _ h
 act_keeps P n t now (act.Do (command.Remove id reason)) new h = remove_keeps P n t now id reason h
 act_keeps P n t now (act.Do (command.KeyNew c)) new h = absurd new
+act_keeps P n t now (act.Do (command.KeyGet id slot)) new h = found_has (Keeps P n) t now _ (by_id id t.live) _ (plain P n t now _ h) (λ p found. found_has (Keeps P n) t now _ (in_slot slot p.slots) _ (plain P n t now _ h) (λ k has. plain P n t now _ h))
+act_keeps P n t now (act.Do (command.KeySwap id)) new h = swap_keeps P n t now id h
+act_keeps P n t now (act.Do (command.KeyDel id slot)) new h = del_keeps P n t now id slot h
 act_keeps P n t now (act.TxLook a) new h = look_keeps P n t now (by_vpn a t.live) (λ p. p.slots.primary) h
 act_keeps P n t now (act.RxLook id key_id from) new h = look_keeps P n t now (model.rx_peer id from t.live) (λ p. by_key_id key_id p.slots) h
 act_keeps P n t now (act.Sent peer inner outer ping) new h =

@@ -1,3 +1,5 @@
+-- What a step makes of each cell, and that a lock lets it.
+pub mod Becoming
 -- The key that a look-up holds is still in the table after that step.
 pub mod Held
 -- Each key that a told table still has is as the journal's key-new with its serial installed it.

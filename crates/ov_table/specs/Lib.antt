@@ -1,3 +1,4 @@
 pub mod Recorded
+pub mod Cells
 pub mod Outcomes
 pub mod Pairs

@@ -2,12 +2,14 @@
 #![tactic(auto)]
 
 mod find;
+mod locked;
 mod outcome;
 mod peers;
 mod retired;
 mod room;
 pub mod table;
 
+pub use locked::{CELLS, KEY_CELLS};
 pub use table::Table;
 
 #[cfg(test)]

@@ -12,6 +12,7 @@ ghost use Rattle.ov_table.specs.Recorded.{unreleased, is_release, first_waiting}
 mod commands;
 mod looks;
 mod releases;
+mod standing;
 mod uses;
 
 use crate::find;

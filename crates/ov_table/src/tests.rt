@@ -3,9 +3,10 @@
 use crate::Table;
 use ov_base::{Addr, Memory, Transport};
 use ov_model::{
-    Act, Attrs, Call, Command, Errno, HoldView, InnerKind, KeyBytes, KeyConf, KeyDir, KeyId, Note,
-    NoteBody, PeerId, Place, Reason, Reply, Settled, Slot,
+    Act, Attrs, Call, Cipher, Command, Errno, HoldView, InnerKind, Keepalive, KeyBytes, KeyConf,
+    KeyDir, KeyId, KeyView, Note, NoteBody, PeerId, Place, Reason, Reply, Settled, Slot,
 };
+use std::alloc::Global;
 use std::process::Abort;
 use std::test::Fail;
 
@@ -361,5 +362,196 @@ fn what_is_sent_and_received_is_counted(rt: HostRuntime) -> Result<(), Fail> {
         Reply::Settled(Settled::NotOwner)
     );
     assert_eq!(rt; make(&mut table, 1, sent(false))?, Reply::Done);
+    Ok(())
+}
+
+/// The ids of the peers that a dump shows.
+fn dumped(rt: &impl Abort, alloc: Global, table: &mut Table) -> Result<Vec<u32>, Fail> {
+    let Reply::Peers(views) = ask(table, 1, Command::PeerDump)? else {
+        panic!(rt; "a dump shows peers");
+    };
+    let mut ids = Vec::new(alloc);
+    for view in views.as_slice() {
+        ids.push(view.id.get())?;
+    }
+    Ok(ids)
+}
+
+#[test]
+fn a_dump_shows_all_live_peers_by_rising_id(rt: HostRuntime) -> Result<(), Fail> {
+    let mut table = Table::new(rt.alloc());
+    assert_eq!(rt;
+        dumped(&rt, rt.alloc(), &mut table)?.as_slice(),
+        [0_u32; 0].as_slice()
+    );
+    for n in [9, 5, 200, 7] {
+        let id = PeerId::new(u32::from(n)).expect(&rt, "an id in range");
+        let given = attrs(id, [192, 0, 2, n], [10, 8, 0, n]);
+        ask(&mut table, 0, Command::PeerNew(given))?;
+    }
+    assert_eq!(rt;
+        dumped(&rt, rt.alloc(), &mut table)?.as_slice(),
+        [5, 7, 9, 200].as_slice()
+    );
+    let seven = PeerId::new(7).expect(&rt, "an id in range");
+    ask(&mut table, 1, Command::Remove(seven, Reason::Userspace))?;
+    assert_eq!(rt;
+        dumped(&rt, rt.alloc(), &mut table)?.as_slice(),
+        [5, 9, 200].as_slice()
+    );
+    Ok(())
+}
+
+#[test]
+fn a_peer_that_is_refused_is_not_in_the_dump(rt: HostRuntime) -> Result<(), Fail> {
+    let five = PeerId::new(5).expect(&rt, "an id in range");
+    let six = PeerId::new(6).expect(&rt, "an id in range");
+    let mut table = Table::new(rt.alloc());
+    let first = attrs(five, [192, 0, 2, 1], [10, 8, 0, 5]);
+    let second = attrs(six, [192, 0, 2, 2], [10, 8, 0, 5]);
+    assert_eq!(rt;
+        ask(&mut table, 0, Command::PeerNew(first))?,
+        Reply::Made(0)
+    );
+    assert_eq!(rt;
+        ask(&mut table, 0, Command::PeerNew(second))?,
+        Reply::Refused(Errno::Exists)
+    );
+    assert_eq!(rt;
+        dumped(&rt, rt.alloc(), &mut table)?.as_slice(),
+        [5].as_slice()
+    );
+    Ok(())
+}
+
+#[test]
+fn peer_set_takes_free_addresses_alone_and_frees_the_old(rt: HostRuntime) -> Result<(), Fail> {
+    let mut table = Table::new(rt.alloc());
+    two_peers(&rt, &mut table)?;
+    let five = PeerId::new(5).expect(&rt, "an id in range");
+    let seven = PeerId::new(7).expect(&rt, "an id in range");
+    let own = attrs(five, [192, 0, 2, 5], [10, 8, 0, 5]);
+    let mut nothing = own;
+    nothing.remote = None;
+    nothing.vpn4 = None;
+    let taken_vpn = attrs(five, [192, 0, 2, 6], [10, 8, 0, 6]);
+    let mut taken_remote = nothing;
+    taken_remote.remote = Some(transport([192, 0, 2, 6]));
+    let moved = attrs(five, [192, 0, 2, 9], [10, 8, 0, 9]);
+    for (given, wanted) in [
+        (
+            attrs(seven, [192, 0, 2, 6], [10, 8, 0, 6]),
+            Reply::Refused(Errno::NoEntry),
+        ),
+        (taken_vpn, Reply::Refused(Errno::Exists)),
+        (taken_remote, Reply::Refused(Errno::Exists)),
+        (own, Reply::Done),
+        (nothing, Reply::Done),
+        (moved, Reply::Done),
+        (moved, Reply::Done),
+    ] {
+        assert_eq!(rt; ask(&mut table, 1, Command::PeerSet(given))?, wanted);
+    }
+    let old = make(&mut table, 1, Act::TxLook(Addr::V4([10, 8, 0, 5])))?;
+    assert_eq!(rt; old, Reply::NoPeer);
+    let new = make(&mut table, 1, Act::TxLook(Addr::V4([10, 8, 0, 9])))?;
+    let hold = HoldView {
+        peer: 0,
+        id: five,
+        key: 0,
+        key_id: KeyId::new(0).expect(&rt, "an id in range"),
+        to: transport([192, 0, 2, 9]),
+    };
+    assert_eq!(rt; new, Reply::Hold(hold));
+    let heir = attrs(seven, [192, 0, 2, 5], [10, 8, 0, 5]);
+    assert_eq!(rt; ask(&mut table, 1, Command::PeerNew(heir))?, Reply::Made(2));
+    Ok(())
+}
+
+#[test]
+fn peer_set_changes_the_keepalive_that_is_given(rt: HostRuntime) -> Result<(), Fail> {
+    let mut table = Table::new(rt.alloc());
+    two_peers(&rt, &mut table)?;
+    let five = PeerId::new(5).expect(&rt, "an id in range");
+    let mut given = attrs(five, [192, 0, 2, 5], [10, 8, 0, 5]);
+    given.keepalive = Some(Keepalive {
+        interval: 10,
+        timeout: 60,
+    });
+    assert_eq!(rt; ask(&mut table, 1, Command::PeerSet(given))?, Reply::Done);
+    given.keepalive = None;
+    assert_eq!(rt; ask(&mut table, 2, Command::PeerSet(given))?, Reply::Done);
+    let Reply::Peer(view) = ask(&mut table, 3, Command::PeerGet(five))? else {
+        panic!(rt; "peer-get shows the peer");
+    };
+    let keepalive = view.into_inner().keepalive;
+    assert_eq!(rt; [keepalive.interval, keepalive.timeout], [10, 60]);
+    Ok(())
+}
+
+#[test]
+fn a_swap_empties_the_primary_slot(rt: HostRuntime) -> Result<(), Fail> {
+    let mut table = Table::new(rt.alloc());
+    let five = PeerId::new(5).expect(&rt, "an id in range");
+    let given = attrs(five, [192, 0, 2, 1], [10, 8, 0, 5]);
+    ask(&mut table, 0, Command::PeerNew(given))?;
+    let swap = Command::KeySwap(five);
+    ask(
+        &mut table,
+        0,
+        Command::KeyNew(conf(&rt, Slot::Primary, 2, 0)),
+    )?;
+    let look = Act::TxLook(Addr::V4([10, 8, 0, 5]));
+    assert_eq!(rt; ask(&mut table, 1, swap)?, Reply::Done);
+    assert!(rt; table.taken().is_empty());
+    assert_eq!(rt; make(&mut table, 1, look)?, Reply::NoKey);
+    let view = KeyView {
+        peer: five,
+        slot: Slot::Secondary,
+        key_id: KeyId::new(2).expect(&rt, "an id in range"),
+        cipher: Cipher::AesGcm,
+    };
+    for (slot, wanted) in [
+        (Slot::Primary, Reply::Refused(Errno::NoEntry)),
+        (Slot::Secondary, Reply::Key(view)),
+    ] {
+        assert_eq!(rt; ask(&mut table, 1, Command::KeyGet(five, slot))?, wanted);
+    }
+    assert_eq!(rt; ask(&mut table, 1, swap)?, Reply::Done);
+    assert!(rt; matches!(make(&mut table, 1, look)?, Reply::Hold(_)));
+    let six = PeerId::new(6).expect(&rt, "an id in range");
+    for command in [
+        Command::KeySwap(six),
+        Command::KeyGet(six, Slot::Primary),
+        Command::KeyDel(six, Slot::Primary),
+    ] {
+        assert_eq!(rt;
+            ask(&mut table, 1, command)?,
+            Reply::Refused(Errno::NoEntry)
+        );
+    }
+    Ok(())
+}
+
+#[test]
+fn a_deleted_key_is_retired_and_the_other_stays(rt: HostRuntime) -> Result<(), Fail> {
+    let mut table = Table::new(rt.alloc());
+    two_peers(&rt, &mut table)?;
+    let five = PeerId::new(5).expect(&rt, "an id in range");
+    let delete = Command::KeyDel(five, Slot::Secondary);
+    assert_eq!(rt; ask(&mut table, 1, delete)?, Reply::Done);
+    assert_eq!(rt; table.taken(), [1].as_slice());
+    assert!(rt; table.pair(1).is_some());
+    assert_eq!(rt; ask(&mut table, 1, delete)?, Reply::Done);
+    assert!(rt; table.taken().is_empty());
+    let gone = ask(&mut table, 1, Command::KeyGet(five, Slot::Secondary))?;
+    assert_eq!(rt; gone, Reply::Refused(Errno::NoEntry));
+    let stays = ask(&mut table, 1, Command::KeyGet(five, Slot::Primary))?;
+    assert!(rt; matches!(stays, Reply::Key(_)));
+    assert_eq!(rt;
+        make(&mut table, 1, Act::KeyReleased(1))?,
+        Reply::KeyReleased(1)
+    );
+    assert!(rt; table.pair(1).is_none());
     Ok(())
 }

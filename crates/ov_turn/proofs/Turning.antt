@@ -200,6 +200,7 @@ module _ {S I : Type 0} (history : S → List I) (live dying : S → List ℕ) (
           subst (λ (l : List I). IsPrefix v.seen l) (sym home.2) fits.seen,
           (λ c h. subst (λ (l : Lists). has c l.live + has c l.dying ≡ 1) (sym home.3) ((r.cells c).known (let p = part_le (holds c) s.views id v at in omega arith))),
           (λ c h. subst (λ (l : Lists). has c l.dying ≡ 1) (sym home.3) ((r.cells c).owed_none (let p = part_le (owes c) s.views id v at in omega arith)).0),
+          (λ c. let p = part_le (owes c) s.views id v at in let o = owed_le (r.cells c) in omega arith),
           true_both (all_below v.cells (live y)) true
               (below_all v.cells (live y) (λ c h. let k : 0 < has c r.lists.live = subst (λ (l : Lists). 0 < has c l.live) home.3 h in let lt = listed s r c (omega arith) in omega arith))
               refl,

@@ -71,13 +71,14 @@ module _ {S I : Type 0} where
       × ((c : ℕ) → count_of c m.0.owes ≤ 1)
 
 module _ {S I : Type 0} (history : S → List I) (live dying : S → List ℕ) where
-  -- the seat's ticket is served: it has the kept value y, whose history begins with what was seen and which lists the cells that the seat holds and owes
+  -- the seat's ticket is served: it has the kept value y, whose history begins with what was seen and which lists the cells that the seat holds and owes, each owed once
   abbrev pub Enters : Me S (View I) → Me S (View I) → S → Type 0
   Enters m w y =
       (w ≡ (entered m.0 (history y) (live y) (dying y), (0, y) ∷ m.1))
       × IsPrefix m.0.seen (history y)
       × ((c : ℕ) → 0 < count_of c m.0.holds → has c (live y) + has c (dying y) ≡ 1)
       × ((c : ℕ) → 0 < count_of c m.0.owes → has c (dying y) ≡ 1)
+      × ((c : ℕ) → count_of c m.0.owes ≤ 1)
       × (lists_fit w.0 ≡ true)
 
   -- the seat has the kept value, where the ticket that is served is its own

@@ -22,7 +22,7 @@ pub struct Inside<'a, S: Kept> {
 }
 
 impl<S: Kept> TicketLock<S> {
-    ghost use Rattle.std.specs.Prelude.{◌≡◌, ℕ, ◌+◌, ◌<◌, []};
+    ghost use Rattle.std.specs.Prelude.{◌≡◌, ℕ, ◌+◌, ◌<◌, ◌≤◌, []};
     ghost use mathlib.Core.List.{IsPrefix};
     ghost use Rattle.ov_base.specs.Sums.{count_of};
     ghost use Rattle.ov_turn.specs.Lists.{has};
@@ -43,6 +43,7 @@ impl<S: Kept> TicketLock<S> {
         ensures owes { owes_in result ≡ owes_of seat }
         ensures held { (c : ℕ) → 0 < count_of c (holds_of seat) → has c (live_in result) + has c (dying_in result) ≡ 1 }
         ensures owed { (c : ℕ) → 0 < count_of c (owes_of seat) → has c (dying_in result) ≡ 1 }
+        ensures once { (c : ℕ) → count_of c (owes_of seat) ≤ 1 }
     {
         let LockSeat { mut seat } = seat;
         let shared = &self.table.shared;

@@ -8,11 +8,11 @@ ghost use Rattle.ov_index.specs.Index.{key_taken};
 use super::Index;
 use crate::name::Name;
 use crate::names::{make_room, owner_of, put_all, take_all};
-use crate::peer::Peer;
 use crate::places::{put_at, take_at};
 use ov_base::{Memory, Transport};
 use ov_keys::KeyRec;
 use ov_model::{PeerId, Settled, Slot};
+use ov_peer::Peer;
 
 impl Index {
     /// Takes the live peer with an id out. It takes no memory.

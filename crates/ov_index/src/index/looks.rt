@@ -9,10 +9,10 @@ ghost use Rattle.ov_index.specs.Names.{has_name};
 use super::Index;
 use crate::name::{Name, remote_name, vpn_name};
 use crate::names::owner_of;
-use crate::peer::Peer;
 use crate::places::{home_of, standing};
 use ov_base::{Addr, Transport};
 use ov_model::{Attrs, PeerId};
+use ov_peer::Peer;
 
 impl Index {
     /// The live peer with a name.
@@ -107,6 +107,62 @@ impl Index {
     {
         match octets {
             Some(octets) => self.by_vpn(Addr::V6(octets)).is_some(),
+            None => false,
+        }
+    }
+
+    /// Whether another live peer than the one with the attributes' id has one of their VPN addresses.
+    #[tactic(auto, using(crate::proofs::Held::shares_is))]
+    pub fn other_shares_vpn(&self, attrs: &Attrs) -> bool
+        ensures { result ≡ list_any (tables.shares_vpn attrs.now)
+            (model.others attrs.now.id self.now.live) }
+    {
+        self.other_has_vpn4(attrs.id, attrs.vpn4) || self.other_has_vpn6(attrs.id, attrs.vpn6)
+    }
+
+    /// Whether another live peer than the one with an id has a VPN address of version 4.
+    fn other_has_vpn4(&self, id: PeerId, octets: Option<[u8; 4]>) -> bool
+        ensures { result ≡ list_any (λ p. tables.same_vpn p.vpn4 octets)
+            (model.others id self.now.live) }
+    {
+        match octets {
+            Some(octets) => self.other_has(id, vpn_name(Addr::V4(octets))),
+            None => false,
+        }
+    }
+
+    /// Whether another live peer than the one with an id has a VPN address of version 6.
+    fn other_has_vpn6(&self, id: PeerId, octets: Option<[u8; 16]>) -> bool
+        ensures { result ≡ list_any (λ p. tables.same_vpn p.vpn6 octets)
+            (model.others id self.now.live) }
+    {
+        match octets {
+            Some(octets) => self.other_has(id, vpn_name(Addr::V6(octets))),
+            None => false,
+        }
+    }
+
+    /// Whether another live peer than the one with the attributes' id has their remote.
+    #[tactic(auto, using(crate::proofs::Held::remote_same, crate::proofs::Held::any_is))]
+    pub fn other_has_remote(&self, attrs: &Attrs) -> bool
+        ensures { result ≡ model.takes_remote attrs.now.remote
+            (model.others attrs.now.id self.now.live) }
+    {
+        match attrs.remote {
+            Some(remote) => self.other_has(attrs.id, remote_name(remote)),
+            None => false,
+        }
+    }
+
+    /// Whether another live peer than the one with an id has a name.
+    fn other_has(&self, id: PeerId, name: Name) -> bool
+        ensures { result ≡ list_any (has_name name) (model.others id self.now.live) }
+    {
+        let Some(serial) = owner_of(&self.owners, name) else {
+            return false;
+        };
+        match standing(&self.peers, serial as usize) {
+            Some(peer) => peer.id.get() != id.get(),
             None => false,
         }
     }

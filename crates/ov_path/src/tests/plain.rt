@@ -301,6 +301,11 @@ fn twin(alloc: Global, reply: &Reply) -> Result<Reply, Memory>
         Reply::Made(serial) => Reply::Made(*serial),
         Reply::Done => Reply::Done,
         Reply::Peer(view) => return Ok(Reply::Peer(Boxed::new(alloc, *view.get())?)),
+        Reply::Peers(views) => {
+            let views = Vec::from_slice(alloc, views.as_slice())?;
+            return Ok(Reply::Peers(ListOf::of_vec(views)));
+        }
+        Reply::Key(view) => Reply::Key(*view),
         Reply::Removed(serials) => {
             let serials = Vec::from_slice(alloc, serials.as_slice())?;
             return Ok(Reply::Removed(ListOf::of_vec(serials)));

@@ -9,11 +9,11 @@ use super::plain::Plain;
 use super::told::{Kind, Told};
 use super::{DATAGRAM, PACKET, held};
 use crate::walk::{Progress, Walk};
-use ov_base::{Addr, Boxed, Memory, Octets, Transport};
+use ov_base::{Addr, Boxed, ListOf, Memory, Octets, Transport};
 use ov_model::netlink::NO_ATTRIBUTES;
 use ov_model::{
-    Act, Answer, Deed, Drawn, DropCause, Errno, Given, Line, NlMessage, NlOp, NlPeer, PeerId,
-    Place, Reply, SealedOut, Verdict,
+    Act, Answer, Command, Deed, Drawn, DropCause, Errno, Given, Line, NlMessage, NlOp, NlPeer,
+    PeerId, Place, Reason, Reply, SealedOut, Verdict,
 };
 use std::alloc::Global;
 use std::process::Abort;
@@ -22,7 +22,7 @@ use std::test::Fail;
 /// An event by its kind, and what tells one of a kind from another.
 #[derive(Debug, Drop, PartialEq, Eq)]
 enum Seen {
-    Do,
+    Do(Command),
     TxLook(Addr),
     RxLook,
     Sent,
@@ -39,7 +39,7 @@ enum Seen {
 fn as_seen(told: &Told) -> Seen {
     match &told.kind {
         Kind::Step(entry) => match &entry.call.act {
-            Act::Do(_) => Seen::Do,
+            Act::Do(command) => Seen::Do(*command),
             Act::TxLook(addr) => Seen::TxLook(*addr),
             Act::RxLook { .. } => Seen::RxLook,
             Act::Sent { .. } => Seen::Sent,
@@ -128,6 +128,17 @@ fn netlink(alloc: Global, op: NlOp, peer: Option<NlPeer>) -> Result<Line, Memory
     })
 }
 
+/// A line that loses the transport of peer 5.
+fn lost(id: PeerId, reason: Reason) -> Line
+    ensures { Fits result.deed }
+{
+    Line {
+        lane: 0,
+        at: 1,
+        deed: Deed::Lost { id, reason },
+    }
+}
+
 /// Makes one turn of a line. The desk's next hops stay.
 fn turn(alloc: Global, desk: &mut Plain, walk: &mut Walk, line: &Line) -> Result<Progress, Memory>
     requires at { Stands (hop_or desk.old.hop) line.now (shown_of desk.old) walk.old }
@@ -171,6 +182,23 @@ fn runs_as(
     let got = all_seen(alloc, desk)?;
     assert_eq!(rt; got.as_slice(), events);
     Ok(())
+}
+
+/// Runs a line that removes peer 5, of serial 0, with this reason.
+fn removes(
+    rt: &impl Abort,
+    alloc: Global,
+    desk: &mut Plain,
+    line: &Line,
+    reason: Reason,
+) -> Result<(), Memory>
+    requires { Fits line.now.deed }
+{
+    let id = PeerId::new(5).expect(rt, "an id in range");
+    let events = [Seen::Do(Command::Remove(id, reason)), Seen::Released(0)];
+    let serials = ListOf::of_vec(Vec::from_array(alloc, [0])?);
+    let answer = Answer::Reply(Reply::Removed(serials));
+    runs_as(rt, alloc, desk, line, answer, &events)
 }
 
 #[test]
@@ -347,13 +375,17 @@ fn a_removed_peer_is_released_by_the_line_that_owes_it(rt: HostRuntime) -> Resul
         ..NO_ATTRIBUTES
     };
     let line = netlink(rt.alloc(), NlOp::PeerDel, Some(peer))?;
-    let answer = run(rt.alloc(), &mut desk, &line)?;
-    let Some(Answer::Reply(Reply::Removed(serials))) = answer else {
-        panic!(rt; "not removed");
-    };
-    assert_eq!(rt; serials.as_slice(), &[0][..]);
-    let seen = all_seen(rt.alloc(), &desk)?;
-    assert_eq!(rt; seen.as_slice(), &[Seen::Do, Seen::Released(0)][..]);
+    removes(&rt, rt.alloc(), &mut desk, &line, Reason::Userspace)?;
+    Ok(())
+}
+
+#[test]
+fn a_lost_transport_removes_its_peer_with_its_reason(rt: HostRuntime) -> Result<(), Fail> {
+    let mut desk = desk_at(&rt, rt.alloc(), 1);
+    let five = PeerId::new(5).expect(&rt, "an id in range");
+    for reason in [Reason::TransportError, Reason::TransportDisconnect] {
+        removes(&rt, rt.alloc(), &mut desk, &lost(five, reason), reason)?;
+    }
     Ok(())
 }
 

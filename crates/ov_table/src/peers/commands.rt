@@ -27,9 +27,14 @@ impl Peers {
     {
         match *command {
             Command::PeerNew(attrs) => self.peer_new(now, &attrs),
+            Command::PeerSet(attrs) => self.peer_set(now, &attrs),
             Command::PeerGet(id) => self.peer_get(now, id),
+            Command::PeerDump => self.peer_dump(now),
             Command::Remove(id, reason) => self.remove(now, id, reason),
             Command::KeyNew(conf) => self.key_new(now, &conf),
+            Command::KeyGet(id, slot) => Ok(self.key_get(now, id, slot)),
+            Command::KeySwap(id) => Ok(self.key_swap(now, id)),
+            Command::KeyDel(id, slot) => self.key_del(now, id, slot),
         }
     }
 

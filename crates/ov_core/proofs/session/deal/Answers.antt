@@ -5,7 +5,7 @@ use Rattle.std.proofs.lemmas.Iterator.Consumers.{YieldsList-turn}
 use Rattle.std.proofs.lemmas.Iterator.Adapters.{YieldsList-from_vec}
 use Rattle.ov_model.specs.Sizes.{Fits}
 use Rattle.ov_core.specs.Courses.{Coursed}
-use Rattle.ov_core.proofs.Marks.{read_there}
+use Rattle.ov_core.proofs.Seats.{read_there}
 use Rattle.ov_core.proofs.Loops.{line_now, dealt_push}
 use Rattle.ov_core.proofs.session.deal.Goals as goal
 

@@ -2,7 +2,7 @@
 use Rattle.std.proofs.Common.{ℕ, ◌≡◌, ◌<◌, List, length, arith}
 use Rattle.std.specs.Prelude.{Some, slice_get}
 use Rattle.ov_core.specs.Courses.{Coursed}
-use Rattle.ov_core.proofs.Marks.{read_there}
+use Rattle.ov_core.proofs.Seats.{read_there}
 use Rattle.ov_core.proofs.Coursing.{out_none, out_more}
 use Rattle.ov_core.proofs.Loops.{turn_may}
 use Rattle.ov_core.proofs.session.run_all.Goals as goal

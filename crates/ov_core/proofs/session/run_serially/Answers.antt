@@ -8,7 +8,7 @@ use Rattle.ov_core.specs.Seats.{new_seated}
 use Rattle.ov_core.specs.Sessions.{Serial}
 use Rattle.ov_core.specs.Courses.{Coursed}
 use Rattle.ov_core.specs.Scripts.{dealt}
-use Rattle.ov_core.proofs.Marks.{read_there}
+use Rattle.ov_core.proofs.Seats.{read_there}
 use Rattle.ov_core.proofs.Serially.{RanSerially}
 use Rattle.ov_core.proofs.Loops.{if_ok, turn_may, serial_start, serial_step, serial_at, order_below}
 use Rattle.ov_core.proofs.session.run_serially.Goals as goal

@@ -6,7 +6,7 @@ use Rattle.std.proofs.lemmas.List.{take_more}
 use Rattle.std.proofs.lemmas.List.Elements.{All-from_recursion, All-get_or}
 use Rattle.ov_core.specs.Courses.{Coursed}
 use Rattle.ov_core.specs.Scripts.{TookTurns}
-use Rattle.ov_core.proofs.Marks.{read_there}
+use Rattle.ov_core.proofs.Seats.{read_there}
 use Rattle.ov_core.proofs.Coursing.{took_more}
 use Rattle.ov_core.proofs.Loops.{turn_may}
 use Rattle.ov_core.proofs.session.take_turns.Goals as goal

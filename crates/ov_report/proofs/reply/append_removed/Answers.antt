@@ -6,13 +6,13 @@ use Rattle.serde_json.specs.Written.{compact_text}
 use Rattle.ov_model.specs.declared.reply.Reply.TheVariants as reply
 use Rattle.ov_report.specs.Print.{one, reply_data}
 use Rattle.ov_report.proofs.Lines.{removed_text}
-use Rattle.ov_report.proofs.NoFloat.{reply_no_float}
+use Rattle.ov_report.proofs.NoFloat.{removed_no_float}
 use Rattle.ov_report.proofs.reply.append_removed.Goals as goal
 
 pub append_value-requires : goal.append_value-requires
 append_value-requires c =
     let viewed : view c.in_ok-removed.removed ≡ reply_data (reply.Removed c.args.serials.now) = c.in_ok-removed.ensures ∙ ap (λ d. one (codes "removed") d) c.in_ok-list.ensures in
-    record { floats = rw viewed (reply_no_float (reply.Removed c.args.serials.now)) }
+    record { floats = rw viewed (removed_no_float c.args.serials.now) }
 
 pub returns : goal.returns
 returns c =

@@ -1,14 +1,13 @@
 -- A draw.
-use Rattle.std.proofs.Common.{◌≡◌, sym, refl, subst, ◌∙◌, ap, get_or, slice_set, [], ◌∷◌, ◌++◌, ◌-◌}
+use Rattle.std.proofs.Common.{◌≡◌, sym, refl, subst, ◌∙◌, ap, get_or, slice_set, [], ◌∷◌, ◌++◌}
 use Rattle.ov_model.specs.Events.{Drew}
 use Rattle.ov_model.specs.Next.{stand_of}
 use Rattle.ov_path.specs.Desks.{HoldsKey, IsLooked}
-use Rattle.ov_core.specs.declared.mark.Mark.TheVariants as mark
 use Rattle.ov_core.specs.contracts.world.World.{the_view}
 use Rattle.ov_core.specs.Worlds.{drawn_of, next_after}
 use Rattle.ov_core.specs.Seats.{Seated, Sitting, Kept, shown_of, seat_of, after_drawn}
 use Rattle.ov_core.proofs.Leaving.{EventDone, did_at, same_world}
-use Rattle.ov_core.proofs.Asking.{draw_done, draw_index, draw_read, draw_most, read_seat, key_room_at}
+use Rattle.ov_core.proofs.Asking.{draw_done, draw_index, draw_read, draw_most, read_seat}
 use Rattle.ov_core.proofs.world.WorldDesk.draw.Goals as goal
 
 pub index-next-requires : goal.index-next-requires
@@ -23,9 +22,6 @@ following-requires c = draw_most (the_view c.self.inside) c.args.key c.index-nex
 pub index_mut-requires : goal.index_mut-requires
 index_mut-requires c = rw c.self.inside.next.ok.0 (draw_index c.args.key c.self.view_is c.self.invariant c.requires.held)
 
-pub drew-requires : goal.drew-requires
-drew-requires c = key_room_at c.args.key c.index_mut-2.result.now c.self.view_is c.self.invariant c.requires.held c.index_mut-2.ensures.value
-
 abbrev was : (c : goal.After-self-2-1) → Seated
 was c = the_view c.self.inside
 
@@ -35,7 +31,7 @@ now c = record {
   shards = (was c).shards;
   first = (was c).first;
   next = slice_set (was c).next c.args.key c.following.result;
-  seats = slice_set (was c).seats (was c).turn c.drew.new.self;
+  seats = slice_set (was c).seats (was c).turn c.saw.new.self;
   turn = (was c).turn;
 }
 
@@ -53,9 +49,9 @@ drew c = c.drawn-result.ensures ∙ ap drawn_of (read c)
 is : (c : goal.After-self-2-1) → now c ≡ after_drawn (was c) c.args.key
 is c = same_world (now c) (after_drawn (was c) c.args.key) refl refl refl
     (ap (λ v. slice_set (was c).next c.args.key v) (c.following.ensures ∙ ap next_after (read c)))
-    (ap (λ s. slice_set (was c).seats (was c).turn s) (c.drew.ensures
-    ∙ ap (λ (s : Sitting). record s { marks = s.marks ++ mark.Drew c.args.key c.drawn-result.result ∷ []; room = s.room - 1 }) (read_seat (was c) c.index_mut-2.result.now c.self.invariant c.index_mut-2.ensures.value)
-    ∙ ap (λ r. record (seat_of (was c)) { marks = (seat_of (was c)).marks ++ mark.Drew c.args.key r ∷ []; room = (seat_of (was c)).room - 1 }) (drew c)))
+    (ap (λ s. slice_set (was c).seats (was c).turn s) (c.saw.ensures
+    ∙ ap (λ (s : Sitting). record s { events = s.events ++ Drew c.args.key c.drawn-result.result ∷ [] }) (read_seat (was c) c.index_mut-2.result.now c.self.invariant c.index_mut-2.ensures.value)
+    ∙ ap (λ r. record (seat_of (was c)) { events = (seat_of (was c)).events ++ Drew c.args.key r ∷ [] }) (drew c)))
     refl
 
 pub invariant_of-self : goal.invariant_of-self

@@ -1,20 +1,16 @@
 -- A replay step.
-use Rattle.std.proofs.Common.{◌≡◌, ◌%◌, ◌-◌, sym, refl, subst, ◌∙◌, ap, slice_set, [], ◌∷◌, ◌++◌}
+use Rattle.std.proofs.Common.{◌≡◌, ◌%◌, sym, refl, subst, ◌∙◌, ap, slice_set, [], ◌∷◌, ◌++◌}
 use Rattle.std.specs.Prelude.{Some, slice_get}
 use Rattle.ov_model.specs.Events.{Judged}
 use Rattle.ov_model.specs.Next.{stand_of}
 use Rattle.ov_model.specs.Replay.{judged}
 use Rattle.ov_path.specs.Desks.{HoldsKey, IsLooked, judged_at}
-use Rattle.ov_core.specs.declared.mark.Mark.TheVariants as mark
 use Rattle.ov_core.specs.contracts.world.World.{the_view}
 use Rattle.ov_core.specs.Seats.{Seated, Sitting, Kept, shown_of, seat_of, after_judged}
-use Rattle.ov_core.proofs.Marks.{read_there}
+use Rattle.ov_core.proofs.Seats.{read_there}
 use Rattle.ov_core.proofs.Leaving.{EventDone, did_at, same_world, shard_below}
-use Rattle.ov_core.proofs.Asking.{replay_done, judgement_at, read_seat, key_room_at}
+use Rattle.ov_core.proofs.Asking.{replay_done, judgement_at, read_seat}
 use Rattle.ov_core.proofs.world.WorldDesk.replay.Goals as goal
-
-pub judged-requires : goal.judged-requires
-judged-requires c = key_room_at c.args.key c.index_mut-2.result.now c.self.view_is c.self.invariant c.requires.held c.index_mut-2.ensures.value
 
 abbrev was : (c : goal.After-self-2-1) → Seated
 was c = the_view c.self.inside
@@ -25,7 +21,7 @@ now c = record {
   shards = slice_set (was c).shards (c.args.key % 8) c.step.new.self;
   first = (was c).first;
   next = (was c).next;
-  seats = slice_set (was c).seats (was c).turn c.judged.new.self;
+  seats = slice_set (was c).seats (was c).turn c.saw.new.self;
   turn = (was c).turn;
 }
 
@@ -43,9 +39,9 @@ verdict_is c = c.in_ok-verdict.ensures.verdict
 is : (c : goal.After-self-2-1) → now c ≡ after_judged (was c) c.index_mut.result.now c.args.place c.args.key c.args.id c.args.at
 is c = same_world (now c) (after_judged (was c) c.index_mut.result.now c.args.place c.args.key c.args.id c.args.at) refl
     (ap (λ s. slice_set (was c).shards (c.args.key % 8) s) c.in_ok-verdict.ensures.ok) refl refl
-    (ap (λ s. slice_set (was c).seats (was c).turn s) (c.judged.ensures
-    ∙ ap (λ (s : Sitting). record s { marks = s.marks ++ mark.Judged (record { place = c.args.place; key = c.args.key; id = c.args.id; at = c.args.at; verdict = c.in_ok-verdict.verdict }) ∷ []; room = s.room - 1 }) (read_seat (was c) c.index_mut-2.result.now c.self.invariant c.index_mut-2.ensures.value)
-    ∙ ap (λ v. record (seat_of (was c)) { marks = (seat_of (was c)).marks ++ mark.Judged (record { place = c.args.place; key = c.args.key; id = c.args.id; at = c.args.at; verdict = v }) ∷ []; room = (seat_of (was c)).room - 1 }) (verdict_is c)))
+    (ap (λ s. slice_set (was c).seats (was c).turn s) (c.saw.ensures
+    ∙ ap (λ (s : Sitting). record s { events = s.events ++ judged_at c.args.place c.args.key c.args.id c.args.at c.in_ok-verdict.verdict ∷ [] }) (read_seat (was c) c.index_mut-2.result.now c.self.invariant c.index_mut-2.ensures.value)
+    ∙ ap (λ v. record (seat_of (was c)) { events = (seat_of (was c)).events ++ judged_at c.args.place c.args.key c.args.id c.args.at v ∷ [] }) (verdict_is c)))
     refl
 
 pub invariant_of-self-2 : goal.invariant_of-self-2

@@ -1,14 +1,13 @@
-use Rattle.std.proofs.Common.{rules, sym, ◌∙◌, ap, ◌≡◌, ◌<◌, ◌++◌, ◌∷◌, [], ◌+◌, length, subst, refl, arith, Bool, true, false, List}
-use Rattle.std.specs.Prelude.{Option, Some, None, vec_len, slice_set}
+use Rattle.std.proofs.Common.{rules, sym, ◌∙◌, ap, ◌≡◌, ◌+◌, length}
+use Rattle.std.specs.Prelude.{Some, vec_len}
 use Rattle.std.specs.HashMap.{get}
-use Rattle.ov_model.specs.Tables.{Peer}
 use Rattle.ov_index.specs.Names.{same_name}
-use Rattle.ov_index.specs.Index.{Indexed, present, standing}
-use Rattle.ov_index.proofs.Held.{length_changed, length_without}
-use Rattle.ov_index.proofs.Slots.{set_set, hole_where_none, standing_at, standing_within, At, Nowhere}
+use Rattle.ov_index.specs.Index.{Indexed, present}
+use Rattle.ov_index.proofs.Held.{length_without}
+use Rattle.ov_index.proofs.Slots.{standing_at}
 use Rattle.ov_model.specs.Tables.{without_first, has_id, by_id}
 use Rattle.ov_index.specs.declared.name.Name.TheVariants.{Id}
-use Rattle.ov_index.proofs.Held.{named_at, named_there, named_nowhere, standing_there}
+use Rattle.ov_index.proofs.Held.{named_at, named_nowhere, standing_there}
 use Rattle.ov_index.proofs.Changed.{taken_out}
 use Rattle.ov_index.proofs.index.Index.remove.Goals as goal
 
@@ -41,7 +40,7 @@ returns-clause-now c =
     let was : present c.self.inside.peers.items ≡ c.args.self.now.live = ap (λ x. x.live) c.self.view_is in
     let at = named_at (get same_name c.self.inside.owners) c.self.inside.homes.items c.self.inside.peers.items c.self.invariant (Id c.args.id.number) c.in-Some.serial c.in-Some-take_at.peer (search rules) (standing_at c.self.inside.peers.items c.in-Some.serial c.in-Some-take_at.peer (search rules)) in
     let live = ap present c.take_at.ensures.now ∙ sym at.without ∙ ap (without_first (has_id c.args.id)) was in
-    let made : vec_len c.take_at.new.peers ≡ c.args.self.now.made = search rules in
+    let made : vec_len c.take_at.new.slots ≡ c.args.self.now.made = search rules in
     let keys : vec_len c.self.inside.homes ≡ c.args.self.now.keys_made = search rules in
     λ i. record { live = live i; made = made i; keys_made = keys i }
 

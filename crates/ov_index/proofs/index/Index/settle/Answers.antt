@@ -1,4 +1,4 @@
-use Rattle.std.proofs.Common.{rules, sym, ◌∙◌, ap, ◌≡◌, List, length}
+use Rattle.std.proofs.Common.{◌∙◌, ap, ◌≡◌, length}
 use Rattle.ov_model.specs.Tables.{Peer, change_first, has_serial}
 use Rattle.ov_model.specs.Step.{settled_peer, received_peer, floated, is_there}
 use Rattle.ov_index.specs.Index.{Indexed}
