@@ -16,7 +16,7 @@ use Rattle.ov_model.specs.declared.reply.Settled.{Settled}
 use Rattle.ov_model.specs.declared.reply.Reply.{Reply}
 use Rattle.ov_model.specs.declared.reply.Reply.TheVariants as reply
 use Rattle.ov_model.specs.Tables.{Peer, Key, Table, has_id, by_id, by_remote, by_vpn, has_vpn, by_key_id, keys_in, keys_of, key_if_any, in_slot, key_serials}
-use Rattle.ov_model.specs.Step.{Outcome, replied, where_found, peer_new_checks, peer_made, peer_new, peer_get, remove_peer, key_new_checks, key_made, key_new, hold_of, key_found, tx_look, rx_look, sent, settle, settled_as, command_step, is_there, has_key}
+use Rattle.ov_model.specs.Step.{Outcome, replied, where_found, peer_new_checks, peer_made, peer_new, peer_set_checks, peer_changed, peer_set, peer_get, peer_dump, remove_peer, key_new_checks, key_made, key_new, key_get, key_swap, key_del, hold_of, key_found, tx_look, rx_look, sent, settle, settled_as, command_step, is_there, has_key}
 use Rattle.ov_model.specs.Path.{removed}
 use Rattle.ov_model.proofs.StepCases.{unless_has, found_has}
 use Rattle.ov_path.specs.Desks.{IsLookReply}
@@ -141,12 +141,21 @@ serials_one : (p : Peer) → length (key_serials (keys_of (p ∷ []))) ≤ 2
 serials_one p = rw (append-nil (keys_in p.slots)) (serials_both p.slots.primary p.slots.secondary)
 
 pub command_few : (t : Table) (now : ℕ) (c : Command) → Few (command_step t now c)
-unfolding peer_new peer_get remove_peer key_new
+unfolding peer_new peer_set peer_get peer_dump remove_peer key_new key_get key_swap key_del
 command_few t now (command.PeerNew a) = found_has Few t now _ a.remote _ (few_plain t now _ (omega arith) refl)
     (λ remote is. unless_has Few t now (peer_new_checks t a remote) (peer_made t now a remote) (λ e. few_plain t now (reply.Refused e) (omega arith) refl) (record { keys = omega arith; peers = omega arith; holds_none = refl }))
+command_few t now (command.PeerSet a) = found_has Few t now _ (by_id a.id t.live) _ (few_plain t now _ (omega arith) refl)
+    (λ p found. unless_has Few t now (peer_set_checks t a) (peer_changed t now a) (λ e. few_plain t now (reply.Refused e) (omega arith) refl) (record { keys = omega arith; peers = omega arith; holds_none = refl }))
 command_few t now (command.PeerGet id) = found_has Few t now _ (by_id id t.live) _ (few_plain t now _ (omega arith) refl) (λ p found. few_plain t now _ (omega arith) refl)
+command_few t now command.PeerDump = few_plain t now _ (omega arith) refl
 command_few t now (command.Remove id reason) = found_has Few t now _ (by_id id t.live) _ (few_plain t now _ (omega arith) refl)
     (λ p found. record { keys = serials_one p; peers = omega arith; holds_none = refl })
 command_few t now (command.KeyNew c) = found_has Few t now _ (by_id c.peer t.live) _ (few_plain t now _ (omega arith) refl)
     (λ p found. unless_has Few t now (key_new_checks t) (key_made t now c p) (λ e. few_plain t now (reply.Refused e) (omega arith) refl)
     (record { keys = (let one = serials_any (in_slot c.slot p.slots) in omega arith); peers = omega arith; holds_none = refl }))
+command_few t now (command.KeyGet id slot) = found_has Few t now _ (by_id id t.live) _ (few_plain t now _ (omega arith) refl)
+    (λ p found. found_has Few t now _ (in_slot slot p.slots) _ (few_plain t now _ (omega arith) refl) (λ k has. few_plain t now _ (omega arith) refl))
+command_few t now (command.KeySwap id) = found_has Few t now _ (by_id id t.live) _ (few_plain t now _ (omega arith) refl)
+    (λ p found. record { keys = omega arith; peers = omega arith; holds_none = refl })
+command_few t now (command.KeyDel id slot) = found_has Few t now _ (by_id id t.live) _ (few_plain t now _ (omega arith) refl)
+    (λ p found. record { keys = (let one = serials_any (in_slot slot p.slots) in omega arith); peers = omega arith; holds_none = refl })

@@ -18,7 +18,7 @@ use Rattle.ov_replay.specs.History.{History}
 use Rattle.ov_core.specs.Worlds.{World, Seat, Makes, after_draw, after_replay, after_key, after_peer, next_of, next_after, drawn_of, holds_key, holds_peer, key_holds, peer_holds, given_where, without_key, without_hold, key_given, peer_given}
 use Rattle.ov_core.specs.Sounds.{WorldSound}
 use Rattle.ov_core.specs.Pasts.{gave}
-use Rattle.ov_core.specs.Seats.{Sitting, Seated, seen, world_of, seat_of, shown_of, histories, itself, is_held, has_key, has_peer, owing_if, owing_list, empty_seat, may_owe, Kept, last_if, given_by, GivesBack, hold_without, given_back, after_drawn, after_judged, after_gave}
+use Rattle.ov_core.specs.Seats.{Sitting, Seated, seen, world_of, seat_of, shown_of, histories, via_in, is_held, has_key, has_peer, owing_if, owing_list, empty_seat, may_owe, Kept, last_if, given_by, GivesBack, hold_without, given_back, after_drawn, after_judged, after_gave}
 use Rattle.ov_core.proofs.Seats.{length-slice_set, set_case, set_own, read_own, map_set, set_set}
 use Rattle.ov_core.proofs.Leaving.{EventDone, below, seen_at, own_spare, quiet_done, one_owed, owing_if_is}
 use Rattle.ov_core.proofs.Keeping.{keeps_draw, draws_below, keeps_replay, keeps_key, keeps_peer}
@@ -34,7 +34,7 @@ draw_done d key kept held looked =
     let at : slice_get w.seats d.turn ≡ Some seat = seen_at d kept in
     let is : world_of (after_drawn d key) ≡ after_draw w d.turn seat key =
     ap (λ (x : List Seat). record w { next = slice_set d.next key (next_after (next_of w key)); seats = x }) (map_set seen d.seats d.turn s) in
-    quiet_done d (after_drawn d key) (Drew key r) s kept refl refl refl kept.numbers
+    quiet_done d (after_drawn d key) (Drew key r) s kept refl refl refl refl kept.numbers
     (record { events = refl; hold = refl; owing = refl; spare = own_spare d kept })
     refl
     (draws_below w d.turn seat key kept.sound at held, is)
@@ -71,7 +71,7 @@ replay_done d shard place key id moment kept held looked shard_is =
     rw (has_entries)
     (ap (λ (x : List Seat). record w { shards = histories (slice_set d.shards (key % 8) (record shard { entries = shard.entries ++ entry ∷ [] })); seats = x }) (map_set seen d.seats d.turn s)
     ∙ ap (λ (x : List (List ReplayEntry)). record w { shards = x; seats = slice_set w.seats d.turn (record seat { events = seat.events ++ Judged j ∷ [] }) }) shards_are) in
-    quiet_done d (after_judged d shard place key id moment) (Judged j) s kept refl refl refl
+    quiet_done d (after_judged d shard place key id moment) (Judged j) s kept refl refl refl refl
     (λ k h at_k. elim (set_case d.shards (key % 8) k (record shard { entries = shard.entries ++ entry ∷ [] }) h at_k) [
       | inl here ↦ rw (here.1, here.0) (kept.numbers (key % 8) shard shard_is)
       | inr there ↦ kept.numbers k h there.1
@@ -142,7 +142,7 @@ gave_owing os (owed.Peer p) g = refl
 record Gives (d : Seated) (o : Owed) : Type 0 where
   makes : Makes (world_of d) d.turn (seen (seat_of d)) (gave o (given_back d o)) (world_of (after_gave d o))
   sound : WorldSound (world_of (after_gave d o))
-  hops : HopsStay (gave o (given_back d o)) itself itself
+  hops : HopsStay (gave o (given_back d o)) (via_in d) (via_in d)
 
 gives : (d : Seated) (o : Owed) → Kept d → GivesBack (shown_of d).hold o → Gives d o
 gives d (owed.Key key) kept held =
@@ -173,7 +173,7 @@ gave_done d o kept held =
     let less : may_owe (hold_without o (seat_of d).hold) + 1 ≤ may_owe (seat_of d).hold = owe_less (seat_of d).hold o held in
     let spare : may_owe (seat_of d).hold ≤ (seat_of d).spare = own_spare d kept in
     let one : length (owed_if g o) ≤ 1 = one_owed g o in
-    quiet_done d (after_gave d o) (gave o g) (gave_seat d o g) kept refl refl refl kept.numbers
+    quiet_done d (after_gave d o) (gave o g) (gave_seat d o g) kept refl refl refl refl kept.numbers
     (record { events = refl; hold = gave_hold (seat_of d).hold o g; owing = gave_owing (seat_of d).owing o g; spare = omega arith })
     its.hops its.makes its.sound
 

@@ -1,17 +1,19 @@
 -- A turn at the world as it is kept is a turn of the definition.
 use Rattle.std.proofs.Common.{ℕ, ◌≡◌, List, [], ◌∷◌, ◌++◌, length, refl, sym, ◌∙◌, ap, subst}
 use Rattle.std.specs.Prelude.{map, Some, slice_get, slice_set}
+use Rattle.ov_base.specs.declared.address.Addr.{Addr}
 use Rattle.ov_model.specs.declared.answer.Answer.{Answer}
 use Rattle.ov_model.specs.declared.line.Line.{Line}
 use Rattle.ov_model.specs.Next.{Nil}
-use Rattle.ov_path.specs.Desks.{NoHold}
+use Rattle.ov_model.specs.Via.{via_of}
+use Rattle.ov_path.specs.Desks.{View, NoHold}
 use Rattle.ov_path.specs.Walks.{GoesOn, Over, Made, MadeOrNone, made, nothing, next_at}
 use Rattle.ov_path.specs.declared.stage.Stage.{Stage}
 use Rattle.ov_path.specs.declared.stage.Stage.TheVariants as stage
-use Rattle.ov_core.specs.Worlds.{World, Seat, no_line, Makes}
+use Rattle.ov_core.specs.Worlds.{World, Seat, no_line, Makes, seen_from}
 use Rattle.ov_core.specs.Sessions.{Lane, Session, place_of, UnderWay, Goes, Answers, answered}
 use Rattle.ov_core.specs.Ready.{Running}
-use Rattle.ov_core.specs.Seats.{Sitting, Seated, Happened, Kept, seen, seat_of, shown_of, world_of, itself, after_line}
+use Rattle.ov_core.specs.Seats.{Sitting, Seated, Happened, Kept, seen, seat_of, shown_of, world_of, via_in, after_line}
 use Rattle.ov_core.proofs.Seats.{same_some, map_set}
 use Rattle.ov_core.proofs.Leaving.{seen_at}
 use Rattle.ov_core.proofs.Taking.{Took}
@@ -30,8 +32,8 @@ abbrev pub under : (d : Seated) (lanes : List Lane) (lane : Lane) (line : Line) 
 under d lanes lane line kept lane_is line_is = record { lane = lane; seat = own_seat d; line = line; lane_is = lane_is; seat_is = seen_at d kept; line_is = line_is }
 
 -- What a turn at the desk made is what a turn of the lane took.
-took : (d e : Seated) (lanes : List Lane) (lane : Lane) (line : Line) (at : Stage) (kept : Kept d) (lane_is : slice_get lanes d.turn ≡ Some lane) (line_is : slice_get lane.lines (length lane.answers) ≡ Some line) → GoesOn itself (place_of d.turn lane) line (shown_of d) at → (m : Made shown_of Happened itself (place_of d.turn lane) line d e) → Took itself (session_of d lanes) d.turn (under d lanes lane line kept lane_is line_is) at m.event (world_of e)
-took d e lanes lane line at kept lane_is line_is goes m =
+took : (via : Addr → Addr) (d e : Seated) (lanes : List Lane) (lane : Lane) (line : Line) (at : Stage) (kept : Kept d) (lane_is : slice_get lanes d.turn ≡ Some lane) (line_is : slice_get lane.lines (length lane.answers) ≡ Some line) → GoesOn via (place_of d.turn lane) line (seen_from via (world_of d) (own_seat d)) at → (m : Made shown_of Happened via (place_of d.turn lane) line d e) → Took via (session_of d lanes) d.turn (under d lanes lane line kept lane_is line_is) at m.event (world_of e)
+took via d e lanes lane line at kept lane_is line_is goes m =
     let there = m.done.happened in
     let same : there.seat ≡ own_seat d = same_some (slice_get (world_of d).seats d.turn) there.seat (own_seat d) there.seat_is (seen_at d kept) in
     record {
@@ -46,11 +48,16 @@ took d e lanes lane line at kept lane_is line_is goes m =
 seat_after : (d e : Seated) → Kept e → e.turn ≡ d.turn → slice_get (world_of e).seats d.turn ≡ Some (own_seat e)
 seat_after d e kept same = subst (λ n. slice_get (world_of e).seats n ≡ Some (own_seat e)) same (seen_at e kept)
 
+-- What the line sees of a world whose routes are those that it asks by.
+seen_own : (via : Addr → Addr) (d e : Seated) → via ≡ via_in d → e.routes ≡ d.routes → shown_of e ≡ seen_from via (world_of e) (own_seat e)
+seen_own via d e hops same = ap (λ (x : Addr → Addr). seen_from x (world_of e) (own_seat e)) (ap (λ rs. via_of rs) same ∙ sym hops)
+
 -- A turn after which the line goes on.
-pub turn_more : (d e : Seated) (lanes : List Lane) (stages : List Stage) (lane : Lane) (line : Line) (at now : Stage) → Kept d → Kept e → Running itself (session_of d lanes) stages → slice_get lanes d.turn ≡ Some lane → slice_get lane.lines (length lane.answers) ≡ Some line → slice_get stages d.turn ≡ Some at → Made shown_of Happened itself (place_of d.turn lane) line d e → GoesOn itself (place_of d.turn lane) line (shown_of e) now → Goes itself d.turn (session_of d lanes) (session_of e lanes) × Running itself (session_of e lanes) (slice_set stages d.turn now)
-turn_more d e lanes stages lane line at now kept kept_e running lane_is line_is at_is m goes =
-    let before : GoesOn itself (place_of d.turn lane) line (shown_of d) at = (running.ready d.turn lane (own_seat d) at lane_is (seen_at d kept) at_is).goes line line_is in
-    turn_goes stages now (own_seat e) running kept_e.sound (took d e lanes lane line at kept lane_is line_is before m) (seat_after d e kept_e m.done.turn) goes
+pub turn_more : (via : Addr → Addr) (d e : Seated) (lanes : List Lane) (stages : List Stage) (lane : Lane) (line : Line) (at now : Stage) → Kept d → Kept e → Running via (session_of d lanes) stages → slice_get lanes d.turn ≡ Some lane → slice_get lane.lines (length lane.answers) ≡ Some line → slice_get stages d.turn ≡ Some at → via ≡ via_in d → Made shown_of Happened via (place_of d.turn lane) line d e → GoesOn via (place_of d.turn lane) line (shown_of e) now → Goes via d.turn (session_of d lanes) (session_of e lanes) × Running via (session_of e lanes) (slice_set stages d.turn now)
+turn_more via d e lanes stages lane line at now kept kept_e running lane_is line_is at_is hops m goes =
+    let before : GoesOn via (place_of d.turn lane) line (seen_from via (world_of d) (own_seat d)) at = (running.ready d.turn lane (own_seat d) at lane_is (seen_at d kept) at_is).goes line line_is in
+    turn_goes stages now (own_seat e) running kept_e.sound (took via d e lanes lane line at kept lane_is line_is before m) (seat_after d e kept_e m.done.turn)
+    (subst (λ (w : View). GoesOn via (place_of d.turn lane) line w now) (seen_own via d e hops m.done.routes) goes)
 
 -- ---- a turn that answers
 
@@ -72,18 +79,19 @@ free_session d e lanes lane a same hold owing =
     ap (λ (w : World). record { world = w; lanes = with_answer lanes d.turn lane a }) world
 
 -- What is said of the answered script is said of the world whose line is forgotten.
-abbrev AnsweredBy : Seated → List Lane → List Stage → Session → Type 0
-AnsweredBy d lanes stages after = Answers itself d.turn (session_of d lanes) after × Running itself after (slice_set stages d.turn stage.Fresh)
+abbrev AnsweredBy : (Addr → Addr) → Seated → List Lane → List Stage → Session → Type 0
+AnsweredBy via d lanes stages after = Answers via d.turn (session_of d lanes) after × Running via after (slice_set stages d.turn stage.Fresh)
 
 -- A turn that answers the line, with an event or without one.
-pub turn_over : (d e : Seated) (lanes : List Lane) (stages : List Stage) (lane : Lane) (line : Line) (at : Stage) (a : Answer) → Kept d → Kept e → Running itself (session_of d lanes) stages → slice_get lanes d.turn ≡ Some lane → slice_get lane.lines (length lane.answers) ≡ Some line → slice_get stages d.turn ≡ Some at → MadeOrNone shown_of Happened itself (place_of d.turn lane) line d e → Over itself (place_of d.turn lane) line (shown_of e) a → Answers itself d.turn (session_of d lanes) (session_of (after_line e) (with_answer lanes d.turn lane a)) × Running itself (session_of (after_line e) (with_answer lanes d.turn lane a)) (slice_set stages d.turn stage.Fresh)
-turn_over d e lanes stages lane line at a kept kept_e running lane_is line_is at_is (made m) over =
-    let before : GoesOn itself (place_of d.turn lane) line (shown_of d) at = (running.ready d.turn lane (own_seat d) at lane_is (seen_at d kept) at_is).goes line line_is in
-    subst (AnsweredBy d lanes stages) (free_session d e lanes lane a m.done.turn over.hold over.owes)
-    (turn_answers stages (own_seat e) a running kept_e.sound (took d e lanes lane line at kept lane_is line_is before m) (seat_after d e kept_e m.done.turn) over)
-turn_over d e lanes stages lane line at a kept kept_e running lane_is line_is at_is (nothing asks same) over =
-    let own : Over itself (place_of d.turn lane) line (shown_of d) a = subst (λ x. Over itself (place_of d.turn lane) line (shown_of x) a) same over in
-    let none : next_at itself line (shown_of d) (shown_of d) ≡ Nil = subst (λ x. next_at itself line (shown_of d) (shown_of x) ≡ Nil) same asks in
-    subst (λ x. AnsweredBy d lanes stages (session_of (after_line x) (with_answer lanes d.turn lane a))) (sym same)
-    (subst (AnsweredBy d lanes stages) (free_session d d lanes lane a refl own.hold own.owes)
-    (turn_answers_at_once (under d lanes lane line kept lane_is line_is) stages a running none own))
+pub turn_over : (via : Addr → Addr) (d e : Seated) (lanes : List Lane) (stages : List Stage) (lane : Lane) (line : Line) (at : Stage) (a : Answer) → Kept d → Kept e → Running via (session_of d lanes) stages → slice_get lanes d.turn ≡ Some lane → slice_get lane.lines (length lane.answers) ≡ Some line → slice_get stages d.turn ≡ Some at → via ≡ via_in d → MadeOrNone shown_of Happened via (place_of d.turn lane) line d e → Over via (place_of d.turn lane) line (shown_of e) a → Answers via d.turn (session_of d lanes) (session_of (after_line e) (with_answer lanes d.turn lane a)) × Running via (session_of (after_line e) (with_answer lanes d.turn lane a)) (slice_set stages d.turn stage.Fresh)
+turn_over via d e lanes stages lane line at a kept kept_e running lane_is line_is at_is hops (made m) over =
+    let before : GoesOn via (place_of d.turn lane) line (seen_from via (world_of d) (own_seat d)) at = (running.ready d.turn lane (own_seat d) at lane_is (seen_at d kept) at_is).goes line line_is in
+    subst (AnsweredBy via d lanes stages) (free_session d e lanes lane a m.done.turn over.hold over.owes)
+    (turn_answers stages (own_seat e) a running kept_e.sound (took via d e lanes lane line at kept lane_is line_is before m) (seat_after d e kept_e m.done.turn)
+    (subst (λ (w : View). Over via (place_of d.turn lane) line w a) (seen_own via d e hops m.done.routes) over))
+turn_over via d e lanes stages lane line at a kept kept_e running lane_is line_is at_is hops (nothing asks same) over =
+    let own : Over via (place_of d.turn lane) line (shown_of d) a = subst (λ x. Over via (place_of d.turn lane) line (shown_of x) a) same over in
+    let none : next_at via line (shown_of d) (shown_of d) ≡ Nil = subst (λ x. next_at via line (shown_of d) (shown_of x) ≡ Nil) same asks in
+    subst (λ x. AnsweredBy via d lanes stages (session_of (after_line x) (with_answer lanes d.turn lane a))) (sym same)
+    (subst (AnsweredBy via d lanes stages) (free_session d d lanes lane a refl own.hold own.owes)
+    (turn_answers_at_once (under d lanes lane line kept lane_is line_is) stages a running none (subst (λ (w : View). Over via (place_of d.turn lane) line w a) (seen_own via d d hops refl) own)))

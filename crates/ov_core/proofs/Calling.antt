@@ -31,7 +31,7 @@ use Rattle.ov_table.proofs.Installed.{pair_installed, key_of-append}
 use Rattle.ov_table.proofs.Told.{told_step}
 use Rattle.ov_core.specs.Worlds.{World, Seat, let_go, joined_by, seat_stepped, after_step, key_holds, peer_holds}
 use Rattle.ov_core.specs.Sounds.{WorldSound}
-use Rattle.ov_core.specs.Seats.{Sitting, Seated, Happened, seen, world_of, seat_of, shown_of, itself, empty_seat, owing_list, owe_each, has, is_held, unheld, leaving, begins_line, seat_begun, seat_called, after_call, release_call, after_release, may_owe, Kept}
+use Rattle.ov_core.specs.Seats.{Sitting, Seated, Happened, seen, world_of, seat_of, shown_of, via_in, empty_seat, owing_list, owe_each, has, is_held, unheld, leaving, begins_line, seat_begun, seat_called, after_call, release_call, after_release, may_owe, Kept}
 use Rattle.ov_core.proofs.Seats.{length-slice_set, set_own, set_same, set_set, map_set}
 use Rattle.ov_core.proofs.Leaving.{EventDone, below, own_at, seen_at, own_spare, spare_set}
 use Rattle.ov_core.proofs.Acts.{Looks, tx_looks, rx_looks, sent_done, SettledReply, settle_says, Few, command_few}
@@ -303,10 +303,10 @@ step_done d place call kept asks =
           grows = λ key v known. key_of_more d.table place call key v known;
           hops = tt;
         };
-        done = record { happened = record { seat = seat; seat_is = at; makes = (may, is) }; turn = refl };
+        done = record { happened = record { seat = seat; seat_is = at; makes = (may, is) }; turn = refl; routes = refl };
       };
       kept = record {
-        sound = subst WorldSound (sym is) (keeps_call itself w d.turn seat place call kept.sound at may asks);
+        sound = subst WorldSound (sym is) (keeps_call (via_in d) w d.turn seat place call kept.sound at may asks);
         long = length-slice_set d.seats d.turn s ∙ kept.long;
         turn = kept.turn;
         numbers = kept.numbers;
@@ -366,7 +366,7 @@ release_done d place at o kept first =
           grows = λ key v known. key_of_more d.table place call key v known;
           hops = tt;
         };
-        done = record { happened = record { seat = seat; seat_is = at_i; makes = (may, is) }; turn = refl };
+        done = record { happened = record { seat = seat; seat_is = at_i; makes = (may, is) }; turn = refl; routes = refl };
       };
       kept = record {
         sound = subst WorldSound (sym is) (keeps_release w d.turn seat place call o kept.sound at_i may first (release_asks at o));

@@ -8,12 +8,13 @@ use Rattle.ov_model.specs.declared.line.Line.{Line}
 use Rattle.ov_model.specs.Legal.{lane_lines}
 use Rattle.ov_core.specs.Worlds.{lane_count}
 use Rattle.ov_model.specs.declared.line.Script.{Script}
+use Rattle.ov_model.specs.Via.{via_of}
 use Rattle.ov_path.specs.declared.stage.Stage.TheVariants as stage
-use Rattle.ov_core.specs.Seats.{itself, new_seated}
+use Rattle.ov_core.specs.Seats.{new_seated}
 use Rattle.ov_core.specs.Sessions.{begun}
 use Rattle.ov_core.specs.Ready.{Running}
 use Rattle.ov_core.specs.Courses.{Coursed, lane_of, session_at}
-use Rattle.ov_core.specs.Scripts.{standing_of, script_at, AreCourses, course_of, dealt}
+use Rattle.ov_core.specs.Scripts.{stages_of, script_at, AreCourses, course_of, dealt}
 use Rattle.ov_core.proofs.Beginning.{get_numbered}
 use Rattle.ov_core.proofs.Running.{running_begun}
 
@@ -58,13 +59,13 @@ dealt_stages_of lines b zero = refl
 dealt_stages_of lines b (suc n) = ap (λ ss. stage.Fresh ∷ ss) (dealt_stages_of lines (b + 1) n)
 
 -- Once all lines are dealt, the courses are the script before any turn.
-pub dealt_script : (script : Script) (first : ℕ) → script_at (new_seated first) (dealt script.lines) ≡ begun script first
-dealt_script script first = ap (session_at (new_seated first)) (dealt_lanes_of script.lines 0 lane_count)
+pub dealt_script : (script : Script) (first : ℕ) → script_at (new_seated first script.routes) (dealt script.lines) ≡ begun script first
+dealt_script script first = ap (session_at (new_seated first script.routes)) (dealt_lanes_of script.lines 0 lane_count)
 
-pub dealt_are : (script : Script) (first : ℕ) → first ≤ 4294967296 → AreCourses (new_seated first) (dealt script.lines)
+pub dealt_are : (script : Script) (first : ℕ) → first ≤ 4294967296 → AreCourses (new_seated first script.routes) (dealt script.lines)
 dealt_are script first most = record {
-  running = subst (λ ls. Running itself (session_at (new_seated first) ls) (standing_of (dealt script.lines)).stages) (sym (dealt_lanes_of script.lines 0 lane_count))
-      (subst (λ ss. Running itself (begun script first) ss) (sym (dealt_stages_of script.lines 0 lane_count)) (running_begun itself script first most));
+  running = subst (λ ls. Running (via_of script.routes) (session_at (new_seated first script.routes) ls) (stages_of (dealt script.lines))) (sym (dealt_lanes_of script.lines 0 lane_count))
+      (subst (λ ss. Running (via_of script.routes) (begun script first) ss) (sym (dealt_stages_of script.lines 0 lane_count)) (running_begun (via_of script.routes) script first most));
   count = refl;
   numbered = λ i c at. ap (λ (x : Coursed). x.lane) (get_numbered (course_of script.lines) 0 lane_count i c at) ∙ (let from_zero : 0 + i ≡ i = omega arith in from_zero);
 }

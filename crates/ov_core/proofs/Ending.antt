@@ -17,6 +17,7 @@ use Rattle.ov_model.specs.Removals.{times, AllReleased}
 use Rattle.ov_model.specs.Replay.{ShardJudges}
 use Rattle.ov_model.specs.Runs.{IsRun, notes_of}
 use Rattle.ov_model.proofs.Lanes.{all_weaker}
+use Rattle.ov_model.specs.Via.{via_of}
 use Rattle.ov_model.proofs.Mine.{lane_whole, rise_mine}
 use Rattle.ov_model.proofs.Noted.{removals_noted}
 use Rattle.ov_model.proofs.Times.{times-append}
@@ -29,7 +30,7 @@ pub record LaneParts (script : Script) (report : Report) (i : ℕ) (log : LaneLo
   pub lines : log.lines ≡ lane_lines script.lines i
   pub answered : length log.answers ≡ length log.lines
   pub recorded : log.recorded ≡ 0
-  pub meets : LaneMeets (key_of report.journal) (λ a. a) (mine i (steps_of report.journal)) (mine_shards i report.shards) i log.lines log.answers
+  pub meets : LaneMeets (key_of report.journal) (via_of script.routes) (mine i (steps_of report.journal)) (mine_shards i report.shards) i log.lines log.answers
   pub rise : AllByRecursion (LinesRise i) (mine_shards i report.shards)
 
 -- A key's counter at the end gave the ids that the lanes sealed.

@@ -76,6 +76,7 @@ begins_so : (via : Addr → Addr) (d : Deed) → BeginsSo (begins via d)
 begins_so via (deed.Netlink m) = begins_command (checked m)
 begins_so via (deed.Tx packet) = begins_look via (inner_of packet)
 begins_so via (deed.Rx from bytes) = begins_head from (head_of bytes)
+begins_so via (deed.Lost id reason) = tt
 
 -- The act that a beginning asks for.
 first_begins : (b : Begin) (a : Act) → BeginsSo b → Table a ≡ asks_first b → IsBegin a
@@ -102,12 +103,14 @@ looked_open o m h (deed.Tx packet) p fits has over = over
 looked_open (Some n) m h (deed.Rx from bytes) p fits has over = elim (opened n.decrypt bytes) as (λ x. IsOver (asks_opened h bytes x) → ⊥) [ Some packet ↦ λ e. e | None ↦ λ e. e ] over
 looked_open None m h (deed.Rx from bytes) p fits has over = over
 looked_open o m h (deed.Netlink n) p fits has over = absurd fits
+looked_open o m h (deed.Lost id reason) p fits has over = absurd fits
 
 drawn_open : (h : HoldView) (x : Drawn) (d : Deed) → PurposeFits d purpose.Seal → IsOver (asks_drawn h x d) → ⊥
 drawn_open h (drawn.Id n) (deed.Tx packet) fits over = over
 drawn_open h drawn.Spent (deed.Tx packet) fits over = over
 drawn_open h x (deed.Rx from bytes) fits over = absurd fits
 drawn_open h x (deed.Netlink n) fits over = absurd fits
+drawn_open h x (deed.Lost id reason) fits over = absurd fits
 
 -- Not at its beginning any more.
 abbrev pub IsBegun : Stage → Type 0
@@ -128,6 +131,7 @@ held_peer m h (deed.Tx packet) peer is = cc
 held_peer None h (deed.Rx from bytes) peer is = cc
 held_peer (Some m) h (deed.Rx from bytes) peer is = elim (opened m.decrypt bytes) as (λ o. GivePeer peer ≡ asks_opened h bytes o → ⊥) [ Some p ↦ λ e. cc | None ↦ λ e. cc ] is
 held_peer m h (deed.Netlink n) peer is = cc
+held_peer m h (deed.Lost id reason) peer is = cc
 
 drawn_peer : (h : HoldView) (x : Drawn) (d : Deed) (peer : ℕ) → GivePeer peer ≡ asks_drawn h x d → ⊥
 drawn_peer h (drawn.Id n) (deed.Tx packet) peer is = cc
@@ -136,11 +140,14 @@ drawn_peer h (drawn.Id n) (deed.Rx from bytes) peer is = cc
 drawn_peer h drawn.Spent (deed.Rx from bytes) peer is = cc
 drawn_peer h (drawn.Id n) (deed.Netlink m) peer is = cc
 drawn_peer h drawn.Spent (deed.Netlink m) peer is = cc
+drawn_peer h (drawn.Id n) (deed.Lost id reason) peer is = cc
+drawn_peer h drawn.Spent (deed.Lost id reason) peer is = cc
 
 judged_peer : (via : Addr → Addr) (h : HoldView) (d : Deed) (m : Option Material) (peer : ℕ) → GivePeer peer ≡ asks_judged via h d m → ⊥
 judged_peer via h (deed.Rx from bytes) (Some m) peer is = cc
 judged_peer via h (deed.Tx packet) (Some m) peer is = cc
 judged_peer via h (deed.Netlink n) (Some m) peer is = cc
+judged_peer via h (deed.Lost id reason) (Some m) peer is = cc
 judged_peer via h d None peer is = cc
 
 still_held : (h : HoldView) (a : Act) (r : Reply) → held_after (Both h) a r ≡ NoHold → ⊥
@@ -225,6 +232,7 @@ module _ (via : Addr → Addr) (place : Place) (line : Line) (w : View) where
   judged_open None m n h (deed.Rx from bytes) later packet opens has over = absurd (cc)
   judged_open o m n h (deed.Tx p) later packet opens has over = absurd opens
   judged_open o m n h (deed.Netlink x) later packet opens has over = absurd opens
+  judged_open o m n h (deed.Lost id reason) later packet opens has over = absurd opens
 
   pub open_asks : (s : Stage) (os : List Owed) → Trail via place line w s → IsBegun s → IsOpen s os → IsOver (next_owing via w.material line.deed (stand_at s) os) → ⊥
   open_asks s (o ∷ os) t begun is_open over = over
@@ -282,11 +290,14 @@ module _ (via : Addr → Addr) (place : Place) (line : Line) (w : View) where
   drawn_never h drawn.Spent (deed.Rx from bytes) key id is = cc
   drawn_never h (drawn.Id n) (deed.Netlink m) key id is = cc
   drawn_never h drawn.Spent (deed.Netlink m) key id is = cc
+  drawn_never h (drawn.Id n) (deed.Lost peer reason) key id is = cc
+  drawn_never h drawn.Spent (deed.Lost peer reason) key id is = cc
 
   judged_never : (h : HoldView) (d : Deed) (m : Option Material) (key id : ℕ) → Replay key id ≡ asks_judged via h d m → ⊥
   judged_never h (deed.Rx from bytes) (Some m) key id is = cc
   judged_never h (deed.Tx packet) (Some m) key id is = cc
   judged_never h (deed.Netlink n) (Some m) key id is = cc
+  judged_never h (deed.Lost peer reason) (Some m) key id is = cc
   judged_never h d None key id is = cc
 
   pub judged_first : (s : Stage) (os : List Owed) (n : ℕ → Option Material) (key id : ℕ) → Trail via place line w s → Replay key id ≡ next_owing via n line.deed (stand_at s) os → judgements_in w.events ≡ []

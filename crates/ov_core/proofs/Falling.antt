@@ -38,7 +38,7 @@ use Rattle.ov_path.specs.Walks.{AtJudged, Opens, Trail, IsOpen, GoesOn}
 use Rattle.ov_path.proofs.Going.{seen}
 use Rattle.ov_core.specs.Worlds.{World, Seat, no_line, seen_from, seat_stepped, judged_next, drawn_of, next_of, key_given, peer_given, ask_of, happened}
 use Rattle.ov_core.specs.Sessions.{Session, IsOver, place_of, world_after}
-use Rattle.ov_core.specs.Seats.{Seated, world_of, itself}
+use Rattle.ov_core.specs.Seats.{Seated, world_of}
 use Rattle.ov_core.specs.Courses.{Coursed, Standing, OnCourse, Went, session_at}
 use Rattle.ov_core.specs.Measure.{stages_left, turns_left}
 use Rattle.ov_core.proofs.Seats.{same_some, set_here}
@@ -64,6 +64,7 @@ held_asks None h (deed.Rx from bytes) s is = cc
 held_asks (Some m) h (deed.Rx from bytes) s is =
     elim (opened m.decrypt bytes) as (λ o. Table s.entry.call.act ≡ asks_opened h bytes o → ⊥) [ Some p ↦ λ e. cc | None ↦ λ e. cc ] is
 held_asks m h (deed.Netlink n) s is = cc
+held_asks m h (deed.Lost id reason) s is = cc
 
 held_asks_peer : (m : Option Material) (h : HoldView) (d : Deed) (peer : ℕ) → GivePeer peer ≡ asks_held m h d → ⊥
 held_asks_peer m h (deed.Tx packet) peer is = cc
@@ -71,6 +72,7 @@ held_asks_peer None h (deed.Rx from bytes) peer is = cc
 held_asks_peer (Some m) h (deed.Rx from bytes) peer is =
     elim (opened m.decrypt bytes) as (λ o. GivePeer peer ≡ asks_opened h bytes o → ⊥) [ Some p ↦ λ e. cc | None ↦ λ e. cc ] is
 held_asks_peer m h (deed.Netlink n) peer is = cc
+held_asks_peer m h (deed.Lost id reason) peer is = cc
 
 judged_stage : (h : HoldView) (v : Verdict) → stages_left (judged_as h v) + 1 ≤ 4
 judged_stage h verdict.Accept = omega arith
@@ -105,6 +107,8 @@ drawn_later h (drawn.Id n) (deed.Rx from bytes) e is = absurd (never_over e is)
 drawn_later h drawn.Spent (deed.Rx from bytes) e is = absurd (never_over e is)
 drawn_later h (drawn.Id n) (deed.Netlink m) e is = absurd (never_over e is)
 drawn_later h drawn.Spent (deed.Netlink m) e is = absurd (never_over e is)
+drawn_later h (drawn.Id n) (deed.Lost id reason) e is = absurd (never_over e is)
+drawn_later h drawn.Spent (deed.Lost id reason) e is = absurd (never_over e is)
 
 used_later : (h : HoldView) (u : Use) (e : Event) → request e ≡ GiveKey h.key → stages_left (see (stand.Used h u) e) + 1 ≤ 2
 used_later h u (Stepped s) is = absurd (cc)
@@ -125,6 +129,7 @@ opens_one : (place : Place) (at : ℕ) (h : HoldView) (d : Deed) (m : Material) 
 opens_one place at h (deed.Rx from bytes) m later packet opens = ap length opens.1
 opens_one place at h (deed.Tx p) m later packet opens = absurd opens
 opens_one place at h (deed.Netlink n) m later packet opens = absurd opens
+opens_one place at h (deed.Lost id reason) m later packet opens = absurd opens
 
 judged_two : (via : Addr → Addr) (place : Place) (line : Line) (w : View) (h : HoldView) (packet : List ℕ) → AtJudged via place line w h packet → length w.events ≡ 2
 judged_two via place line w h packet at =
@@ -352,11 +357,11 @@ went_falls d e all c x on went begun =
     let u = went.goes.under in
     let new : Seat = went.goes.seat in
     let lane : x.lane ≡ c.lane = ap (λ (y : Coursed). y.lane) went.course in
-    let before : GoesOn itself (place_of c.lane u.lane) u.line (seen_from itself (world_of d) u.seat) c.walk.stage = (on.running.ready c.lane u.lane u.seat c.walk.stage u.lane_is u.seat_is on.stage_is).goes u.line u.line_is in
+    let before : GoesOn all.via (place_of c.lane u.lane) u.line (seen_from all.via (world_of d) u.seat) c.walk.stage = (on.running.ready c.lane u.lane u.seat c.walk.stage u.lane_is u.seat_is on.stage_is).goes u.line u.line_is in
     let stage_is : slice_get (slice_set all.stages c.lane x.walk.stage) c.lane ≡ Some x.walk.stage = set_here all.stages c.lane x.walk.stage c.walk.stage on.stage_is in
-    let after : GoesOn itself (place_of c.lane u.lane) u.line (seen_from itself (world_of e) new) x.walk.stage = (went.on.running.ready c.lane u.lane new x.walk.stage u.lane_is went.goes.seat_is stage_is).goes u.line u.line_is in
-    let world : world_of e ≡ world_after itself (session_at d all.lanes) c.lane u = ap (λ (s : Session). s.world) went.goes.after_is in
-    let less = falls_there itself (world_of d) (world_of e) c.lane u.seat new (place_of c.lane u.lane) u.line c.walk.stage x.walk.stage u.seat_is went.goes.seat_is before begun world after in
+    let after : GoesOn all.via (place_of c.lane u.lane) u.line (seen_from all.via (world_of e) new) x.walk.stage = (went.on.running.ready c.lane u.lane new x.walk.stage u.lane_is went.goes.seat_is stage_is).goes u.line u.line_is in
+    let world : world_of e ≡ world_after all.via (session_at d all.lanes) c.lane u = ap (λ (s : Session). s.world) went.goes.after_is in
+    let less = falls_there all.via (world_of d) (world_of e) c.lane u.seat new (place_of c.lane u.lane) u.line c.walk.stage x.walk.stage u.seat_is went.goes.seat_is before begun world after in
     let left : get_or (world_of e).seats x.lane no_line ≡ new = ap (λ n. get_or (world_of e).seats n no_line) lane ∙ got (world_of e).seats c.lane no_line new went.goes.seat_is in
     let had : get_or (world_of d).seats c.lane no_line ≡ u.seat = got (world_of d).seats c.lane no_line u.seat u.seat_is in
     rw (left, had) less
@@ -383,15 +388,15 @@ went_begun d e all c x on went =
     let u = went.goes.under in
     let new : Seat = went.goes.seat in
     let place : Place = place_of c.lane u.lane in
-    let ask : Ask = ask_of itself (world_of d) u.seat u.line in
+    let ask : Ask = ask_of all.via (world_of d) u.seat u.line in
     let world : world_of e ≡ happened (world_of d) c.lane u.seat place u.line ask = ap (λ (s : Session). s.world) went.goes.after_is in
     let never : IsOver ask → ⊥ = (λ is_over.
     let same : world_of e ≡ world_of d = world ∙ over_same (world_of d) c.lane u.seat place u.line ask is_over in
     let seat : new ≡ u.seat = same_some (slice_get (world_of d).seats c.lane) new u.seat (subst (λ (w : World). slice_get w.seats c.lane ≡ Some new) same went.goes.seat_is) u.seat_is in
-    let asks_same : ask_of itself (world_of e) new u.line ≡ ask = ap (λ (w : World). ask_of itself w new u.line) same ∙ ap (λ (s : Seat). ask_of itself (world_of d) s u.line) seat in
+    let asks_same : ask_of all.via (world_of e) new u.line ≡ ask = ap (λ (w : World). ask_of all.via w new u.line) same ∙ ap (λ (s : Seat). ask_of all.via (world_of d) s u.line) seat in
     went.goes.more (subst IsOver (sym asks_same) is_over)) in
     let new_at : slice_get (happened (world_of d) c.lane u.seat place u.line ask).seats c.lane ≡ Some new = subst (λ (w : World). slice_get w.seats c.lane ≡ Some new) world went.goes.seat_is in
     let m : SeatMade u.seat new ask = seat_made (world_of d) c.lane u.seat u.seat_is new place u.line ask never new_at in
     let stage_is : slice_get (slice_set all.stages c.lane x.walk.stage) c.lane ≡ Some x.walk.stage = set_here all.stages c.lane x.walk.stage c.walk.stage on.stage_is in
-    let after : GoesOn itself place u.line (seen_from itself (world_of e) new) x.walk.stage = (went.on.running.ready c.lane u.lane new x.walk.stage u.lane_is went.goes.seat_is stage_is).goes u.line u.line_is in
-    begun_later itself place u.line (seen_from itself (world_of e) new) u.seat.events m.made x.walk.stage m.events after.0.trail
+    let after : GoesOn all.via place u.line (seen_from all.via (world_of e) new) x.walk.stage = (went.on.running.ready c.lane u.lane new x.walk.stage u.lane_is went.goes.seat_is stage_is).goes u.line u.line_is in
+    begun_later all.via place u.line (seen_from all.via (world_of e) new) u.seat.events m.made x.walk.stage m.events after.0.trail

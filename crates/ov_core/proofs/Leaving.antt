@@ -5,13 +5,14 @@ use Rattle.std.proofs.lemmas.List.{length-map}
 use Rattle.ov_model.specs.declared.hold.Given.{Given}
 use Rattle.ov_model.specs.declared.hold.Given.TheVariants as given
 use Rattle.ov_model.specs.declared.hold.Owed.{Owed}
+use Rattle.ov_model.specs.declared.line.Route.{Route}
 use Rattle.ov_model.specs.Events.{Event}
 use Rattle.ov_path.specs.Desks.{Did, HopsStay, hold_left, owed_left, owed_if}
 use Rattle.ov_replay.specs.History.{History}
 use Rattle.ov_table.specs.Recorded.{Recorded}
 use Rattle.ov_core.specs.Worlds.{Makes}
 use Rattle.ov_core.specs.Sounds.{WorldSound}
-use Rattle.ov_core.specs.Seats.{Sitting, Seated, Happened, seen, world_of, seat_of, shown_of, histories, itself, empty_seat, owing_if, owing_list, may_owe, Kept}
+use Rattle.ov_core.specs.Seats.{Sitting, Seated, Happened, seen, world_of, seat_of, shown_of, histories, via_in, empty_seat, owing_if, owing_list, may_owe, Kept}
 use Rattle.ov_core.proofs.Seats.{length-slice_set, set_case, get_own, set_own, map_get}
 
 -- ---- the lane that has its turn
@@ -53,9 +54,9 @@ pub record Change (d : Seated) (event : Event) (s : Sitting) : Type 0 where
   pub owing : s.owing ≡ owed_left (seat_of d).owing event
   pub spare : may_owe s.hold ≤ s.spare
 
-pub quiet_done : (d e : Seated) (event : Event) (s : Sitting) → Kept d → e.table ≡ d.table → e.turn ≡ d.turn → e.seats ≡ slice_set d.seats d.turn s → ((k : ℕ) (h : History) → slice_get e.shards k ≡ Some h → h.number ≡ k) → Change d event s → HopsStay event itself itself
+pub quiet_done : (d e : Seated) (event : Event) (s : Sitting) → Kept d → e.table ≡ d.table → e.turn ≡ d.turn → e.routes ≡ d.routes → e.seats ≡ slice_set d.seats d.turn s → ((k : ℕ) (h : History) → slice_get e.shards k ≡ Some h → h.number ≡ k) → Change d event s → HopsStay event (via_in d) (via_in e)
     → Makes (world_of d) d.turn (seen (seat_of d)) event (world_of e) → WorldSound (world_of e) → EventDone d event e
-quiet_done d e event s kept table turn seats numbers change hops makes sound =
+quiet_done d e event s kept table turn routes seats numbers change hops makes sound =
     let own : seat_of e ≡ s = rw (seats, turn) (set_own d.seats d.turn s empty_seat (below d kept)) in
     record {
       did = record {
@@ -66,7 +67,7 @@ quiet_done d e event s kept table turn seats numbers change hops makes sound =
           grows = λ k m is. rw table is;
           hops = hops;
         };
-        done = record { happened = record { seat = seen (seat_of d); seat_is = seen_at d kept; makes = makes }; turn = turn };
+        done = record { happened = record { seat = seen (seat_of d); seat_is = seen_at d kept; makes = makes }; turn = turn; routes = routes };
       };
       kept = record {
         sound = sound;
@@ -92,15 +93,16 @@ one_owed given.More o = omega arith
 
 -- ---- the same world
 
-pub same_world : (e d : Seated) → e.table ≡ d.table → e.shards ≡ d.shards → e.first ≡ d.first → e.next ≡ d.next → e.seats ≡ d.seats → e.turn ≡ d.turn → e ≡ d
-same_world e d table shards first next seats turn =
-    let F : Recorded → List History → ℕ → List ℕ → List Sitting → ℕ → Seated = λ t s f n x u. record { table = t; shards = s; first = f; next = n; seats = x; turn = u } in
-    ap (λ t. F t e.shards e.first e.next e.seats e.turn) table
-    ∙ ap (λ s. F d.table s e.first e.next e.seats e.turn) shards
-    ∙ ap (λ f. F d.table d.shards f e.next e.seats e.turn) first
-    ∙ ap (λ n. F d.table d.shards d.first n e.seats e.turn) next
-    ∙ ap (λ x. F d.table d.shards d.first d.next x e.turn) seats
-    ∙ ap (λ u. F d.table d.shards d.first d.next d.seats u) turn
+pub same_world : (e d : Seated) → e.routes ≡ d.routes → e.table ≡ d.table → e.shards ≡ d.shards → e.first ≡ d.first → e.next ≡ d.next → e.seats ≡ d.seats → e.turn ≡ d.turn → e ≡ d
+same_world e d routes table shards first next seats turn =
+    let F : Recorded → List History → ℕ → List ℕ → List Sitting → ℕ → List Route → Seated = λ t s f n x u r. record { table = t; shards = s; first = f; next = n; seats = x; turn = u; routes = r } in
+    ap (λ t. F t e.shards e.first e.next e.seats e.turn e.routes) table
+    ∙ ap (λ s. F d.table s e.first e.next e.seats e.turn e.routes) shards
+    ∙ ap (λ f. F d.table d.shards f e.next e.seats e.turn e.routes) first
+    ∙ ap (λ n. F d.table d.shards d.first n e.seats e.turn e.routes) next
+    ∙ ap (λ x. F d.table d.shards d.first d.next x e.turn e.routes) seats
+    ∙ ap (λ u. F d.table d.shards d.first d.next d.seats u e.routes) turn
+    ∙ ap (λ r. F d.table d.shards d.first d.next d.seats d.turn r) routes
 
 pub shard_below : (d : Seated) (key : ℕ) → Kept d → key % 8 < length d.shards
 shard_below d key kept =

@@ -9,7 +9,7 @@ use Rattle.ov_core.specs.declared.course.Turn.{Turn as Did}
 use Rattle.ov_core.specs.declared.course.Turn.TheVariants as did
 use Rattle.ov_core.specs.Worlds.{lane_count}
 use Rattle.ov_model.specs.declared.line.Script.{Script}
-use Rattle.ov_core.specs.Seats.{Seated, new_seated}
+use Rattle.ov_core.specs.Seats.{Seated, via_in, new_seated}
 use Rattle.ov_core.specs.Courses.{Coursed, Standing, SomeCourse}
 use Rattle.ov_core.specs.Scripts.{standing_of, AreCourses, RanLine, RanLineIn, LineRan, RanLines, TookTurns, RanOut, course_of, dealt}
 use Rattle.ov_core.proofs.Beginning.{get_numbered}
@@ -21,7 +21,7 @@ use Rattle.ov_core.proofs.Serially.{lines_none, lines_more, line_left, RanSerial
 
 -- Each course may take a turn.
 pub turn_may : (d : Seated) (courses : List Coursed) (i : ℕ) (c : Coursed) → AreCourses d courses → slice_get courses i ≡ Some c → SomeCourse d c
-turn_may d courses i c are at = record { all = standing_of courses; on = on_course d courses i c are at }
+turn_may d courses i c are at = record { all = standing_of (via_in d) courses; on = on_course d courses i c are at }
 
 -- One line more was dealt.
 pub dealt_push : (lines : List Line) (line : Line) (courses : List Coursed) (c x : Coursed) → courses ≡ dealt lines → line.lane < lane_count → slice_get courses line.lane ≡ Some c → x ≡ record c { lines = c.lines ++ line ∷ [] } → slice_set courses line.lane x ≡ dealt (lines ++ line ∷ [])
@@ -81,25 +81,25 @@ if_ok (Ok x) has then = then x has
 if_ok (Err e) has then = tt
 
 -- The courses once all lines are dealt, in a new world.
-pub start_are : (script : Script) (first : ℕ) (d : Seated) (courses : List Coursed) → d ≡ new_seated first → courses ≡ dealt script.lines → first ≤ 4294967296 → AreCourses d courses
+pub start_are : (script : Script) (first : ℕ) (d : Seated) (courses : List Coursed) → d ≡ new_seated first script.routes → courses ≡ dealt script.lines → first ≤ 4294967296 → AreCourses d courses
 start_are script first d courses new_is dealt_so most = rw (new_is, dealt_so) (dealt_are script first most)
 
 -- A run by a schedule.
-pub scheduled_at : (script : Script) (first : ℕ) (schedule : List ℕ) (d e f : Seated) (start mid after : List Coursed) → d ≡ new_seated first → start ≡ dealt script.lines → TookTurns d e start mid schedule → RanOut e f mid after 64 → RanBy script first schedule f after
+pub scheduled_at : (script : Script) (first : ℕ) (schedule : List ℕ) (d e f : Seated) (start mid after : List Coursed) → d ≡ new_seated first script.routes → start ≡ dealt script.lines → TookTurns d e start mid schedule → RanOut e f mid after 64 → RanBy script first schedule f after
 scheduled_at script first schedule d e f start mid after new_is dealt_so took out =
-    let from_new : TookTurns (new_seated first) e start mid schedule = subst (λ x. TookTurns x e start mid schedule) new_is took in
-    ran_by script first schedule e f mid after (subst (λ cs. TookTurns (new_seated first) e cs mid schedule) dealt_so from_new) out
+    let from_new : TookTurns (new_seated first script.routes) e start mid schedule = subst (λ x. TookTurns x e start mid schedule) new_is took in
+    ran_by script first schedule e f mid after (subst (λ cs. TookTurns (new_seated first script.routes) e cs mid schedule) dealt_so from_new) out
 
 -- A run of one line after the other.
-pub serial_start : (script : Script) (first : ℕ) (d : Seated) (courses : List Coursed) → d ≡ new_seated first → courses ≡ dealt script.lines → first ≤ 4294967296 → RanLines script.lines (new_seated first) d (dealt script.lines) courses []
+pub serial_start : (script : Script) (first : ℕ) (d : Seated) (courses : List Coursed) → d ≡ new_seated first script.routes → courses ≡ dealt script.lines → first ≤ 4294967296 → RanLines script.lines (new_seated first script.routes) d (dealt script.lines) courses []
 serial_start script first d courses new_is dealt_so most =
-    subst (λ x. RanLines script.lines (new_seated first) x (dealt script.lines) courses []) (sym new_is) (subst (λ cs. RanLines script.lines (new_seated first) (new_seated first) (dealt script.lines) cs []) (sym dealt_so) (lines_none script first most))
+    subst (λ x. RanLines script.lines (new_seated first script.routes) x (dealt script.lines) courses []) (sym new_is) (subst (λ cs. RanLines script.lines (new_seated first script.routes) (new_seated first script.routes) (dealt script.lines) cs []) (sym dealt_so) (lines_none script first most))
 
-pub serial_at : (script : Script) (first : ℕ) (order : List ℕ) (k : ℕ) (e : Seated) (after : List Coursed) → order ≡ map (λ l. l.lane) script.lines → length order ≤ k → RanLines script.lines (new_seated first) e (dealt script.lines) after (take k script.lines) → RanSerially script first e after
+pub serial_at : (script : Script) (first : ℕ) (order : List ℕ) (k : ℕ) (e : Seated) (after : List Coursed) → order ≡ map (λ l. l.lane) script.lines → length order ≤ k → RanLines script.lines (new_seated first script.routes) e (dealt script.lines) after (take k script.lines) → RanSerially script first e after
 serial_at script first order k e after order_is past ran =
     let long : length order ≡ length script.lines = ap length order_is ∙ length-map script.lines (λ l. l.lane) in
     let whole : take k script.lines ≡ script.lines = take_all k script.lines (omega arith) in
-    ran_serially script first e after (subst (λ ls. RanLines script.lines (new_seated first) e (dealt script.lines) after ls) whole ran)
+    ran_serially script first e after (subst (λ ls. RanLines script.lines (new_seated first script.routes) e (dealt script.lines) after ls) whole ran)
 
 -- What holds of all holds at a place.
 pub all_at : {X : Type 0} (P : X → Type 0) (xs : List X) (k : ℕ) (d : X) → AllByRecursion P xs → k < length xs → P (get_or xs k d)

@@ -2,6 +2,7 @@
 use Rattle.std.proofs.Common.{ℕ, ◌≡◌, ◌+◌, ◌≤◌, List, [], ◌∷◌, ◌++◌, refl, sym, ◌∙◌, ap, arith, zero, suc, add-one, subst}
 use Rattle.std.specs.Prelude.{Some, slice_get, slice_set}
 use Rattle.std.specs.List.{AllByRecursion}
+use Rattle.ov_model.specs.declared.line.Route.{Route}
 use Rattle.ov_model.proofs.Lanes.{all_append}
 use Rattle.ov_path.specs.Desks.{Holding, NoHold}
 use Rattle.ov_replay.specs.History.{History}
@@ -38,9 +39,9 @@ all_empty : (n : ℕ) → AllByRecursion HasSpare (seats_to n)
 all_empty zero = tt
 all_empty (suc n) = all_append HasSpare (seats_to n) (empty_seat ∷ []) (all_empty n) (omega arith, tt)
 
-pub new_kept : (first : ℕ) → first ≤ 4294967296 → Kept (new_seated first)
-new_kept first most = record {
-  sound = (sound_begun (λ a. a) (record { lines = [] }) first most).world;
+pub new_kept : (first : ℕ) (routes : List Route) → first ≤ 4294967296 → Kept (new_seated first routes)
+new_kept first routes most = record {
+  sound = (sound_begun (λ a. a) (record { lines = []; routes = [] }) first most).world;
   long = refl;
   turn = omega arith;
   numbers = numbers_new;

@@ -8,6 +8,7 @@ use Rattle.std.proofs.lemmas.Bool.Decides.{nat_tests}
 use Rattle.std.proofs.lemmas.Option.{slice_get-map, slice_get_within}
 use Rattle.std.proofs.lemmas.List.{length-map}
 use Rattle.ov_base.specs.Sums.{total}
+use Rattle.ov_base.specs.declared.address.Addr.{Addr}
 use Rattle.ov_model.specs.declared.line.Script.{Script}
 use Rattle.ov_model.specs.declared.report.LaneLog.{LaneLog}
 use Rattle.ov_model.specs.Events.{steps_of, draws_in}
@@ -16,6 +17,7 @@ use Rattle.ov_model.specs.Legal.{Legal}
 use Rattle.ov_model.specs.Own.{mine, mine_shards}
 use Rattle.ov_model.specs.Removals.{times, AllReleased}
 use Rattle.ov_model.specs.Tables.{Peer, Key, serials_of, key_serials}
+use Rattle.ov_model.specs.Via.{via_of}
 use Rattle.ov_model.proofs.Lanes.{lane_done}
 use Rattle.ov_core.specs.Worlds.{World, Seat, no_line, lane_count, next_of, peer_holds, key_holds, peer_owes, key_owes, holds_peer, holds_key, is_peer, is_key}
 use Rattle.ov_core.specs.Sessions.{Lane, Session, log_of, report_of, IsDone}
@@ -58,13 +60,13 @@ lane_of s i log at =
 
 -- ---- a lane
 
-lane_parts : (script : Script) (first : ℕ) (s : Session) (i : ℕ) (lane : Lane) → Sound (λ a. a) s → IsOf script first s → IsDone s → slice_get s.lanes i ≡ Some lane → LaneParts script (report_of s) i (log_of lane)
+lane_parts : (script : Script) (first : ℕ) (s : Session) (i : ℕ) (lane : Lane) → Sound (via_of script.routes) s → IsOf script first s → IsDone s → slice_get s.lanes i ≡ Some lane → LaneParts script (report_of s) i (log_of lane)
 lane_parts script first s i lane sound is_of done lane_is =
     let long : length s.world.seats ≡ length s.lanes = sound.seated in
     let within : i < length s.lanes = slice_get_within s.lanes i lane lane_is in
     let seat = get_below s.world.seats i (omega arith) in
     let free : seat.x ≡ no_line = all_at (λ x. x ≡ no_line) s.world.seats i seat.x done.seats seat.is in
-    let its : LaneSound (λ a. a) s.world.table.journal s.world.shards i lane no_line = subst (LaneSound (λ a. a) s.world.table.journal s.world.shards i lane) free (sound.lanes i lane seat.x lane_is seat.is) in
+    let its : LaneSound (via_of script.routes) s.world.table.journal s.world.shards i lane no_line = subst (LaneSound (via_of script.routes) s.world.table.journal s.world.shards i lane) free (sound.lanes i lane seat.x lane_is seat.is) in
     record {
       lines = is_of.lines i lane lane_is;
       answered = all_at (λ (l : Lane). length l.answers ≡ length l.lines) s.lanes i lane done.lanes lane_is;
@@ -75,7 +77,7 @@ lane_parts script first s i lane sound is_of done lane_is =
 
 -- ---- a key
 
-key_parts : (first : ℕ) (s : Session) (key : ℕ) → Sound (λ a. a) s → s.world.first ≡ first → IsDone s → KeyParts first (report_of s) key
+key_parts : {via : Addr → Addr} (first : ℕ) (s : Session) (key : ℕ) → Sound via s → s.world.first ≡ first → IsDone s → KeyParts first (report_of s) key
 key_parts first s key sound first_is done =
     let counts : Counts s key = sound.counts key in
     let sealed : (f : List ℕ → ℕ) → f [] ≡ 0 → total (λ log. f (ids_of log.answers key)) (map log_of s.lanes) ≡ over_lanes f key s = λ f none.
@@ -104,7 +106,7 @@ key_parts first s key sound first_is done =
 none_left : (owed held n : ℕ) → owed ≡ (if held == 0 then n else 0) → owed ≡ 0 → held ≡ 0 → n ≡ 0
 none_left owed held n is none free = grind (arith, nat_tests)
 
-all_let_go : (s : Session) → Sound (λ a. a) s → IsDone s → AllReleased s.world.table.journal
+all_let_go : {via : Addr → Addr} (s : Session) → Sound via s → IsDone s → AllReleased s.world.table.journal
 all_let_go s sound done =
     let w : World = s.world in
     let owes : Owes w = sound.world.owes in
@@ -119,7 +121,7 @@ all_let_go s sound done =
           none_left (key_owes k w.seats) (key_holds k w.seats) (times k (key_serials w.table.now.retired)) (owes.keys k) owed held));
     }
 
-pub parts_of : (script : Script) (first : ℕ) (s : Session) → AllByRecursion (λ line. line.lane < lane_count) script.lines → Sound (λ a. a) s → IsOf script first s → IsDone s → Parts script first (report_of s)
+pub parts_of : (script : Script) (first : ℕ) (s : Session) → AllByRecursion (λ line. line.lane < lane_count) script.lines → Sound (via_of script.routes) s → IsOf script first s → IsDone s → Parts script first (report_of s)
 parts_of script first s named sound is_of done =
     let logs : length (map log_of s.lanes) ≡ length s.lanes = length-map s.lanes log_of in
     let lanes : length (map log_of s.lanes) ≡ lane_count = logs ∙ is_of.count in
@@ -137,5 +139,5 @@ parts_of script first s named sound is_of done =
     }
 
 -- The report of a sound script whose lanes are done is legal.
-pub done_legal : (script : Script) (first : ℕ) (s : Session) → AllByRecursion (λ line. line.lane < lane_count) script.lines → Sound (λ a. a) s → IsOf script first s → IsDone s → Legal script first (report_of s)
+pub done_legal : (script : Script) (first : ℕ) (s : Session) → AllByRecursion (λ line. line.lane < lane_count) script.lines → Sound (via_of script.routes) s → IsOf script first s → IsDone s → Legal script first (report_of s)
 done_legal script first s named sound is_of done = legal script first (report_of s) (parts_of script first s named sound is_of done)

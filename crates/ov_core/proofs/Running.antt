@@ -13,6 +13,7 @@ use Rattle.ov_model.specs.Legal.{Legal}
 use Rattle.ov_model.specs.declared.place.Place.{Place}
 use Rattle.ov_model.specs.declared.line.Line.{Line}
 use Rattle.ov_model.specs.Next.{Ask, Table, Replay, Draw, GiveKey, GivePeer, Nil, Over as NoAsk}
+use Rattle.ov_model.specs.Via.{via_of}
 use Rattle.ov_path.specs.Desks.{Grows}
 use Rattle.ov_path.specs.Walks.{GoesOn, Over}
 use Rattle.ov_path.specs.declared.stage.Stage.{Stage}
@@ -198,5 +199,5 @@ running_done via s stages running all = record {
 }
 
 -- The report of a script that ran to its end is legal.
-pub running_legal : (script : Script) (first : ℕ) (s : Session) (stages : List Stage) → AllByRecursion (λ line. line.lane < lane_count) script.lines → Running (λ a. a) s stages → IsOf script first s → AllAnswered s.lanes → Legal script first (report_of s)
-running_legal script first s stages lanes running of all = done_legal script first s lanes running.sound of (running_done (λ a. a) s stages running all)
+pub running_legal : (script : Script) (first : ℕ) (s : Session) (stages : List Stage) → AllByRecursion (λ line. line.lane < lane_count) script.lines → Running (via_of script.routes) s stages → IsOf script first s → AllAnswered s.lanes → Legal script first (report_of s)
+running_legal script first s stages lanes running of all = done_legal script first s lanes running.sound of (running_done (via_of script.routes) s stages running all)

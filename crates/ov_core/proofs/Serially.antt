@@ -8,11 +8,13 @@ use Rattle.ov_base.specs.declared.address.Addr.{Addr}
 use Rattle.ov_model.specs.declared.line.Line.{Line}
 use Rattle.ov_model.specs.declared.line.Script.{Script}
 use Rattle.ov_model.specs.Legal.{Legal, lane_lines}
+use Rattle.ov_model.specs.Via.{via_of}
 use Rattle.ov_core.specs.Worlds.{lane_count}
-use Rattle.ov_core.specs.Seats.{Seated, itself, new_seated}
-use Rattle.ov_core.specs.Sessions.{Session, RunsLines, Serial, begun, report_of}
+use Rattle.ov_core.specs.Seats.{Seated, via_in, new_seated}
+use Rattle.ov_core.specs.Sessions.{Session, RunsLine, RunsLines, Serial, begun, report_of}
+use Rattle.ov_core.specs.Ready.{Running}
 use Rattle.ov_core.specs.Courses.{Coursed, Standing, OnCourse}
-use Rattle.ov_core.specs.Scripts.{lanes_of, standing_of, script_at, LineRan, RanLines, course_of, dealt}
+use Rattle.ov_core.specs.Scripts.{lanes_of, stages_of, standing_of, script_at, LineRan, RanLines, course_of, dealt}
 use Rattle.ov_core.proofs.Seats.{set_case}
 use Rattle.ov_core.specs.Sounds.{IsOf}
 use Rattle.ov_core.proofs.Beginning.{get_numbered, is_begun}
@@ -25,10 +27,11 @@ use Rattle.ov_core.proofs.Coursing.{on_course, line_ran}
 -- ---- lines one after the other
 
 -- None yet.
-pub lines_none : (script : Script) (first : ℕ) → first ≤ 4294967296 → RanLines script.lines (new_seated first) (new_seated first) (dealt script.lines) (dealt script.lines) []
+pub lines_none : (script : Script) (first : ℕ) → first ≤ 4294967296 → RanLines script.lines (new_seated first script.routes) (new_seated first script.routes) (dealt script.lines) (dealt script.lines) []
 lines_none script first most = record {
   runs = refl;
   are = dealt_are script first most;
+  hops = refl;
   lines_are = λ i c at. ap (λ (x : Coursed). x.lines) (get_numbered (course_of script.lines) 0 lane_count i c at) ∙ ap (lane_lines script.lines) (let from_zero : 0 + i ≡ i = omega arith in from_zero);
   answered = λ i c at. ap (λ (x : Coursed). length x.answers) (get_numbered (course_of script.lines) 0 lane_count i c at);
 }
@@ -36,11 +39,13 @@ lines_none script first most = record {
 -- The next line ran to its end, on its lane.
 pub lines_more : (all : List Line) (d e f : Seated) (before mid : List Coursed) (lines : List Line) (line : Line) (c x : Coursed) → RanLines all d e before mid lines → slice_get mid line.lane ≡ Some c → ((standing : Standing) → OnCourse e standing c → LineRan e f standing c x) → RanLines all d f before (slice_set mid line.lane x) (lines ++ line ∷ [])
 lines_more all d e f before mid lines line c x ran at ran_so =
-    let one : LineRan e f (standing_of mid) c x = ran_so (standing_of mid) (on_course e mid line.lane c ran.are at) in
+    let one : LineRan e f (standing_of (via_in e) mid) c x = ran_so (standing_of (via_in e) mid) (on_course e mid line.lane c ran.are at) in
     let step = line_ran e f mid line.lane c x ran.are at one in
+    let next : RunsLine (via_in d) line.lane (script_at e mid) (script_at f (slice_set mid line.lane x)) = subst (λ (v : Addr → Addr). RunsLine v line.lane (script_at e mid) (script_at f (slice_set mid line.lane x))) (sym ran.hops) step.0 in
     record {
-      runs = runs_more itself (script_at d before) (script_at e mid) (script_at f (slice_set mid line.lane x)) lines line ran.runs step.0;
+      runs = runs_more (via_in d) (script_at d before) (script_at e mid) (script_at f (slice_set mid line.lane x)) lines line ran.runs next;
       are = step.1;
+      hops = ran.hops ∙ step.2;
       lines_are = λ i y y_is. elim (set_case mid line.lane i x y y_is) [
         | inl here ↦ ap (λ (z : Coursed). z.lines) here.1 ∙ one.lines ∙ ran.lines_are line.lane c at ∙ ap (lane_lines all) (sym here.0)
         | inr there ↦ ran.lines_are i y there.1
@@ -76,17 +81,19 @@ runs_are via script first s after (line ∷ lines) runs of = runs_are via script
 
 -- All lines of the script ran, one after the other.
 pub record RanSerially (script : Script) (first : ℕ) (d : Seated) (courses : List Coursed) : Type 0 where
-  pub serial : Serial itself script first (report_of (script_at d courses))
+  pub serial : Serial (via_of script.routes) script first (report_of (script_at d courses))
   pub legal : AllByRecursion (λ line. line.lane < lane_count) script.lines → Legal script first (report_of (script_at d courses))
 
-pub ran_serially : (script : Script) (first : ℕ) (e : Seated) (after : List Coursed) → RanLines script.lines (new_seated first) e (dealt script.lines) after script.lines → RanSerially script first e after
+pub ran_serially : (script : Script) (first : ℕ) (e : Seated) (after : List Coursed) → RanLines script.lines (new_seated first script.routes) e (dealt script.lines) after script.lines → RanSerially script first e after
 ran_serially script first e after ran =
-    let runs : RunsLines itself (begun script first) script.lines (script_at e after) = subst (λ s. RunsLines itself s script.lines (script_at e after)) (dealt_script script first) ran.runs in
+    let via : Addr → Addr = via_of script.routes in
+    let runs : RunsLines via (begun script first) script.lines (script_at e after) = subst (λ s. RunsLines via s script.lines (script_at e after)) (dealt_script script first) ran.runs in
+    let running : Running via (script_at e after) (stages_of after) = subst (λ (v : Addr → Addr). Running v (script_at e after) (stages_of after)) (sym ran.hops) ran.are.running in
     let all : AllAnswered (lanes_of after) = all_answered e after ran.are (λ i c at.
     let lines : length c.lines ≡ length (lane_lines script.lines i) = ap length (ran.lines_are i c at) in
     let answers : length c.answers ≡ length (lane_lines script.lines i) = ran.answered i c at in
     omega arith) in
     record {
       serial = record { last = script_at e after; runs = runs; report_is = refl };
-      legal = λ lanes. running_legal script first (script_at e after) (standing_of after).stages lanes ran.are.running (runs_are itself script first (begun script first) (script_at e after) script.lines runs (is_begun script first)) all;
+      legal = λ lanes. running_legal script first (script_at e after) (stages_of after) lanes running (runs_are via script first (begun script first) (script_at e after) script.lines runs (is_begun script first)) all;
     }

@@ -1,12 +1,13 @@
 -- A lane's turns up to the end of its line, and its lines up to the last one.
 use Rattle.std.proofs.Common.{ℕ, ◌≡◌, ◌+◌, ◌-◌, ◌≤◌, ◌<◌, zero, suc, List, [], ◌∷◌, ◌++◌, length, length-append, refl, sym, ◌∙◌, ap, subst, arith}
 use Rattle.std.specs.Prelude.{replicate, Some, slice_get, slice_set}
+use Rattle.ov_base.specs.declared.address.Addr.{Addr}
 use Rattle.ov_model.specs.declared.line.Line.{Line}
 use Rattle.ov_path.specs.declared.stage.Stage.{Stage}
 use Rattle.ov_core.specs.declared.course.Turn.{Turn as Did}
 use Rattle.ov_core.specs.declared.course.Turn.TheVariants as did
 use Rattle.ov_core.specs.Worlds.{World}
-use Rattle.ov_core.specs.Seats.{Seated, itself, world_of}
+use Rattle.ov_core.specs.Seats.{Seated, world_of}
 use Rattle.ov_core.specs.Sessions.{Lane, Session, Goes, Answers, GoesOn, Turns}
 use Rattle.ov_core.specs.Ready.{Running}
 use Rattle.ov_core.specs.Courses.{Coursed, Standing, OnCourse, SomeCourse, Passed, WasAnswered, Turned, TurnedIn, lane_of, session_at}
@@ -21,12 +22,12 @@ use Rattle.ov_core.proofs.Taking.{turns_append, line_turns}
 
 -- The line of the lane stands where the course has it.
 abbrev pub standing_on : Standing → (c x : Coursed) → Standing
-standing_on all c x = record { lanes = all.lanes; stages = slice_set all.stages c.lane x.walk.stage }
+standing_on all c x = record all { stages = slice_set all.stages c.lane x.walk.stage }
 
 -- The lane's line made so many events and goes on.
 pub record GoneOn (d e : Seated) (all : Standing) (c x : Coursed) : Type 0 where
   pub count : ℕ
-  pub goes : GoesOn itself c.lane count (session_at d all.lanes) (session_at e all.lanes)
+  pub goes : GoesOn all.via c.lane count (session_at d all.lanes) (session_at e all.lanes)
   pub course : x ≡ record c { walk = x.walk }
   pub begun : IsBegun x.walk.stage
   pub left : length c.answers < length c.lines
@@ -60,18 +61,18 @@ line_under all c lane line own lane_is line_is =
     some_below c.lines (length c.answers) line (subst (λ (l : Lane). slice_get l.lines (length l.answers) ≡ Some line) same line_is)
 
 -- A turn that answers the line ends its run.
-answered_ran : (d e f : Seated) (all : Standing) (c x y : Coursed) (n : ℕ) (stages : List Stage) → GoesOn itself c.lane n (session_at d all.lanes) (session_at e all.lanes) → x ≡ record c { walk = x.walk } → slice_set stages x.lane y.walk.stage ≡ slice_set all.stages x.lane y.walk.stage → WasAnswered e f (record { lanes = all.lanes; stages = stages }) x y → LineRan d f all c y
+answered_ran : (d e f : Seated) (all : Standing) (c x y : Coursed) (n : ℕ) (stages : List Stage) → GoesOn all.via c.lane n (session_at d all.lanes) (session_at e all.lanes) → x ≡ record c { walk = x.walk } → slice_set stages x.lane y.walk.stage ≡ slice_set all.stages x.lane y.walk.stage → WasAnswered e f (record all { stages = stages }) x y → LineRan d f all c y
 answered_ran d e f all c x y n stages goes course same was =
     let lane_x : x.lane ≡ c.lane = ap (λ (z : Coursed). z.lane) course in
     let lane_y : y.lane ≡ x.lane = ap (λ (z : Coursed). z.lane) was.course in
-    let standing : record { lanes = slice_set all.lanes x.lane (lane_of y); stages = slice_set stages x.lane y.walk.stage } ≡ standing_then all y = ap (λ (ss : List Stage). record { lanes = slice_set all.lanes x.lane (lane_of y); stages = ss }) same ∙ ap (λ k. record { lanes = slice_set all.lanes k (lane_of y); stages = slice_set all.stages k y.walk.stage }) (sym lane_y) in
-    let there : Answers itself x.lane (session_at e all.lanes) (session_at f (standing_then all y).lanes) = subst (λ k. Answers itself x.lane (session_at e all.lanes) (session_at f (slice_set all.lanes k (lane_of y)))) (sym lane_y) was.answers in
+    let standing : record all { lanes = slice_set all.lanes x.lane (lane_of y); stages = slice_set stages x.lane y.walk.stage } ≡ standing_then all y = ap (λ (ss : List Stage). record all { lanes = slice_set all.lanes x.lane (lane_of y); stages = ss }) same ∙ ap (λ k. record all { lanes = slice_set all.lanes k (lane_of y); stages = slice_set all.stages k y.walk.stage }) (sym lane_y) in
+    let there : Answers all.via x.lane (session_at e all.lanes) (session_at f (standing_then all y).lanes) = subst (λ k. Answers all.via x.lane (session_at e all.lanes) (session_at f (slice_set all.lanes k (lane_of y)))) (sym lane_y) was.answers in
     record {
       runs = record {
         count = n;
         between = session_at e all.lanes;
         goes = goes;
-        answers = subst (λ k. Answers itself k (session_at e all.lanes) (session_at f (standing_then all y).lanes)) lane_x there;
+        answers = subst (λ k. Answers all.via k (session_at e all.lanes) (session_at f (standing_then all y).lanes)) lane_x there;
       };
       lane = lane_y ∙ lane_x;
       lines = ap (λ (z : Coursed). z.lines) was.course ∙ ap (λ (z : Coursed). z.lines) course;
@@ -104,10 +105,10 @@ next_turn d e f all c x y did.Passed g t =
     absurd (omega arith)
 next_turn d e f all c x y did.Going g t =
     let lane : x.lane ≡ c.lane = ap (λ (z : Coursed). z.lane) g.course in
-    let standing : standing_on (standing_on all c x) x y ≡ standing_on all c y = ap (λ k. record { lanes = all.lanes; stages = slice_set (slice_set all.stages c.lane x.walk.stage) k y.walk.stage }) lane ∙ ap (λ (ss : List Stage). record { lanes = all.lanes; stages = ss }) (set_set all.stages c.lane x.walk.stage y.walk.stage) in
+    let standing : standing_on (standing_on all c x) x y ≡ standing_on all c y = ap (λ k. record all { stages = slice_set (slice_set all.stages c.lane x.walk.stage) k y.walk.stage }) lane ∙ ap (λ (ss : List Stage). record all { stages = ss }) (set_set all.stages c.lane x.walk.stage y.walk.stage) in
     record {
       count = suc g.count;
-      goes = (session_at e all.lanes, g.goes, subst (λ k. Goes itself k (session_at e all.lanes) (session_at f all.lanes)) lane t.goes);
+      goes = (session_at e all.lanes, g.goes, subst (λ k. Goes all.via k (session_at e all.lanes) (session_at f all.lanes)) lane t.goes);
       course = t.course ∙ ap (λ (z : Coursed). record z { walk = y.walk }) g.course;
       begun = went_begun e f (standing_on all c x) x y g.on t;
       left = g.left;
@@ -148,7 +149,7 @@ turned_falls d e f c x y r q going some to t =
 -- The lane's first lines ran to their end, by so many turns of it.
 pub record OutTo (d e : Seated) (all : Standing) (c x : Coursed) : Type 0 where
   pub count : ℕ
-  pub turns : Turns itself (session_at d all.lanes) (replicate count c.lane) (session_at e (standing_then all x).lanes)
+  pub turns : Turns all.via (session_at d all.lanes) (replicate count c.lane) (session_at e (standing_then all x).lanes)
   pub lane : x.lane ≡ c.lane
   pub lines : x.lines ≡ c.lines
   pub on : OnCourse e (standing_then all x) x
@@ -171,7 +172,7 @@ pub out_first : (d : Seated) (c : Coursed) → OutToIn d d c c
 out_first d c = λ all on.
     let lanes : slice_set all.lanes c.lane (lane_of c) ≡ all.lanes = put_back all.lanes c.lane (lane_of c) on.lane_is in
     let stages : slice_set all.stages c.lane c.walk.stage ≡ all.stages = put_back all.stages c.lane c.walk.stage on.stage_is in
-    let standing : standing_then all c ≡ all = ap (λ (ls : List Lane). record { lanes = ls; stages = slice_set all.stages c.lane c.walk.stage }) lanes ∙ ap (λ (ss : List Stage). record { lanes = all.lanes; stages = ss }) stages in
+    let standing : standing_then all c ≡ all = ap (λ (ls : List Lane). record all { lanes = ls; stages = slice_set all.stages c.lane c.walk.stage }) lanes ∙ ap (λ (ss : List Stage). record all { stages = ss }) stages in
     record {
       count = zero;
       turns = ap (session_at d) lanes;
@@ -189,17 +190,17 @@ replicate_both (suc a) b i = ap (λ is. i ∷ is) (replicate_both a b i) ∙ ap 
 line_more : (d e f : Seated) (all : Standing) (c x y : Coursed) → OutTo d e all c x → LineRan e f (standing_then all x) x y → OutTo d f all c y
 line_more d e f all c x y o ran =
     let standing : standing_then (standing_then all x) y ≡ standing_then all y =
-    ap (λ k. record { lanes = slice_set (slice_set all.lanes k (lane_of x)) y.lane (lane_of y); stages = slice_set (slice_set all.stages k x.walk.stage) y.lane y.walk.stage }) (sym ran.lane)
-    ∙ ap (λ (ls : List Lane). record { lanes = ls; stages = slice_set (slice_set all.stages y.lane x.walk.stage) y.lane y.walk.stage }) (set_set all.lanes y.lane (lane_of x) (lane_of y))
-    ∙ ap (λ (ss : List Stage). record { lanes = slice_set all.lanes y.lane (lane_of y); stages = ss }) (set_set all.stages y.lane x.walk.stage y.walk.stage) in
-    let more : Turns itself (session_at e (standing_then all x).lanes) (replicate (ran.runs.count + 1) c.lane) (session_at f (standing_then all y).lanes) =
-    subst (λ k. Turns itself (session_at e (standing_then all x).lanes) (replicate (ran.runs.count + 1) k) (session_at f (standing_then all y).lanes)) o.lane
-    (subst (λ (s : Standing). Turns itself (session_at e (standing_then all x).lanes) (replicate (ran.runs.count + 1) x.lane) (session_at f s.lanes)) standing
-    (line_turns itself x.lane (session_at e (standing_then all x).lanes) (session_at f (standing_then (standing_then all x) y).lanes) ran.runs)) in
+    ap (λ k. record all { lanes = slice_set (slice_set all.lanes k (lane_of x)) y.lane (lane_of y); stages = slice_set (slice_set all.stages k x.walk.stage) y.lane y.walk.stage }) (sym ran.lane)
+    ∙ ap (λ (ls : List Lane). record all { lanes = ls; stages = slice_set (slice_set all.stages y.lane x.walk.stage) y.lane y.walk.stage }) (set_set all.lanes y.lane (lane_of x) (lane_of y))
+    ∙ ap (λ (ss : List Stage). record all { lanes = slice_set all.lanes y.lane (lane_of y); stages = ss }) (set_set all.stages y.lane x.walk.stage y.walk.stage) in
+    let more : Turns all.via (session_at e (standing_then all x).lanes) (replicate (ran.runs.count + 1) c.lane) (session_at f (standing_then all y).lanes) =
+    subst (λ k. Turns all.via (session_at e (standing_then all x).lanes) (replicate (ran.runs.count + 1) k) (session_at f (standing_then all y).lanes)) o.lane
+    (subst (λ (s : Standing). Turns all.via (session_at e (standing_then all x).lanes) (replicate (ran.runs.count + 1) x.lane) (session_at f s.lanes)) standing
+    (line_turns all.via x.lane (session_at e (standing_then all x).lanes) (session_at f (standing_then (standing_then all x) y).lanes) ran.runs)) in
     record {
       count = o.count + (ran.runs.count + 1);
-      turns = subst (λ is. Turns itself (session_at d all.lanes) is (session_at f (standing_then all y).lanes)) (replicate_both o.count (ran.runs.count + 1) c.lane)
-          (turns_append itself (session_at d all.lanes) (session_at e (standing_then all x).lanes) (session_at f (standing_then all y).lanes) (replicate o.count c.lane) (replicate (ran.runs.count + 1) c.lane) o.turns more);
+      turns = subst (λ is. Turns all.via (session_at d all.lanes) is (session_at f (standing_then all y).lanes)) (replicate_both o.count (ran.runs.count + 1) c.lane)
+          (turns_append all.via (session_at d all.lanes) (session_at e (standing_then all x).lanes) (session_at f (standing_then all y).lanes) (replicate o.count c.lane) (replicate (ran.runs.count + 1) c.lane) o.turns more);
       lane = ran.lane ∙ o.lane;
       lines = ran.lines ∙ o.lines;
       on = subst (λ (s : Standing). OnCourse f s y) standing ran.on;
@@ -209,29 +210,30 @@ line_more d e f all c x y o ran =
 all_ran : (d e f : Seated) (all : Standing) (c x y : Coursed) → OutTo d e all c x → Passed e f x y → LinesRan d f all c y
 all_ran d e f all c x y o p =
     let on : OnCourse f (standing_then all x) x = record {
-      running = subst (λ (w : World). Running itself (record { world = w; lanes = (standing_then all x).lanes }) (standing_then all x).stages) (sym p.world) o.on.running;
+      running = subst (λ (w : World). Running all.via (record { world = w; lanes = (standing_then all x).lanes }) (standing_then all x).stages) (sym p.world) o.on.running;
+      hops = o.on.hops ∙ sym p.hops;
       lane_is = o.on.lane_is;
       stage_is = o.on.stage_is;
     } in
     let after : session_at e (standing_then all x).lanes ≡ session_at f (standing_then all y).lanes = ap (λ (w : World). record { world = w; lanes = (standing_then all x).lanes }) (sym p.world) ∙ ap (λ (z : Coursed). session_at f (standing_then all z).lanes) (sym p.course) in
     record {
       count = o.count;
-      turns = subst (λ (s : Session). Turns itself (session_at d all.lanes) (replicate o.count c.lane) s) after o.turns;
+      turns = subst (λ (s : Session). Turns all.via (session_at d all.lanes) (replicate o.count c.lane) s) after o.turns;
       lane = ap (λ (z : Coursed). z.lane) p.course ∙ o.lane;
       lines = ap (λ (z : Coursed). z.lines) p.course ∙ o.lines;
       done = subst (λ (z : Coursed). length z.lines ≤ length z.answers) (sym p.course) p.none;
       on = subst (λ (z : Coursed). OnCourse f (standing_then all z) z) (sym p.course) on;
     }
 
-goes_lanes : (i n : ℕ) (s t : Session) → GoesOn itself i n s t → t.lanes ≡ s.lanes
-goes_lanes i zero s t goes = ap (λ (z : Session). z.lanes) goes
-goes_lanes i (suc n) s t goes = ap (λ (z : Session). z.lanes) goes.2.after_is ∙ goes_lanes i n s goes.0 goes.1
+goes_lanes : (via : Addr → Addr) (i n : ℕ) (s t : Session) → GoesOn via i n s t → t.lanes ≡ s.lanes
+goes_lanes via i zero s t goes = ap (λ (z : Session). z.lanes) goes
+goes_lanes via i (suc n) s t goes = ap (λ (z : Session). z.lanes) goes.2.after_is ∙ goes_lanes via i n s goes.0 goes.1
 
 -- A line that ran was left before.
 ran_left : (d e : Seated) (all : Standing) (c x : Coursed) → OnCourse d all c → LineRan d e all c x → length c.answers < length c.lines
 ran_left d e all c x on ran =
     let u = ran.runs.answers.under in
-    let lanes : ran.runs.between.lanes ≡ all.lanes = goes_lanes c.lane ran.runs.count (session_at d all.lanes) ran.runs.between ran.runs.goes in
+    let lanes : ran.runs.between.lanes ≡ all.lanes = goes_lanes all.via c.lane ran.runs.count (session_at d all.lanes) ran.runs.between ran.runs.goes in
     line_under all c u.lane u.line on.lane_is (subst (λ (ls : List Lane). slice_get ls c.lane ≡ Some u.lane) lanes u.lane_is) u.line_is
 
 line_falls : (d e : Seated) (all : Standing) (c x : Coursed) → OnCourse d all c → LineRan d e all c x → lines_left x < lines_left c

@@ -2,6 +2,7 @@
 use Rattle.std.specs.Prelude.{ℕ, zero, suc, ◌-◌, ◌%◌, if◌then◌else◌, ◌≡◌, ◌≤◌, ◌<◌, List, [], ◌∷◌, ◌++◌, length, map, filter, get_or, slice_get, slice_set, Bool, true, false, not, ◌==◌, Some}
 use Rattle.std.specs.List.{list_any}
 use Rattle.ov_base.specs.declared.address.Addr.{Addr}
+use Rattle.ov_model.specs.declared.line.Route.{Route}
 use Rattle.ov_model.specs.declared.place.Place.{Place}
 use Rattle.ov_model.specs.declared.act.Act.{Act}
 use Rattle.ov_model.specs.declared.act.Act.TheVariants as act
@@ -18,6 +19,7 @@ use Rattle.ov_model.specs.Events.{Event, Stepped, Drew, release_of}
 use Rattle.ov_model.specs.Lifetime.{key_made_by}
 use Rattle.ov_model.specs.Path.{removed}
 use Rattle.ov_model.specs.Replay.{judged}
+use Rattle.ov_model.specs.Via.{via_of}
 use Rattle.ov_path.specs.Desks.{View, Holding, NoHold, Both, PeerLeft, HoldsKey, LeftPeer, held_after, peer_left, stepped_as, judged_at, after_first, owed_if}
 use Rattle.ov_replay.specs.History.{History}
 use Rattle.ov_table.specs.Recorded.{Recorded, no_steps, stepped}
@@ -82,7 +84,7 @@ seen s = record { events = s.events; hold = s.hold; owing = s.owing }
 -- ---- the world
 
 -- The world as it is kept: the table, the replay windows, where each key's counter began and the id that it
--- gives next, the seats, and the lane that has its turn.
+-- gives next, the seats, the lane that has its turn, and the routes of the script.
 pub record Seated : Type 0 where
   pub table : Recorded
   pub shards : List History
@@ -90,6 +92,7 @@ pub record Seated : Type 0 where
   pub next : List ℕ
   pub seats : List Sitting
   pub turn : ℕ
+  pub routes : List Route
 
 -- The replay steps of all shards.
 abbrev pub histories : List History → List (List ReplayEntry)
@@ -103,18 +106,19 @@ world_of d = record { table = d.table; shards = histories d.shards; first = d.fi
 abbrev pub seat_of : Seated → Sitting
 seat_of d = get_or d.seats d.turn empty_seat
 
--- Without routes the next hop of an address is the address itself.
-abbrev pub itself : Addr → Addr
-itself a = a
+-- The next hop of an address, by the script's routes.
+abbrev pub via_in : Seated → Addr → Addr
+via_in d = via_of d.routes
 
 -- What the line sees of the world whose lane has its turn.
 abbrev pub shown_of : Seated → View
-shown_of d = seen_from itself (world_of d) (seen (seat_of d))
+shown_of d = seen_from (via_in d) (world_of d) (seen (seat_of d))
 
 -- An event of the lane that has its turn happened.
 pub record Happened (d : Seated) (event : Event) (e : Seated) : Type 0 where
   pub happened : HappenedThere (world_of d) d.turn event (world_of e)
   pub turn : e.turn ≡ d.turn
+  pub routes : e.routes ≡ d.routes
 
 -- So many shards without a step.
 abbrev pub shards_to : ℕ → List History
@@ -131,8 +135,8 @@ seats_to zero = []
 seats_to (suc n) = seats_to n ++ empty_seat ∷ []
 
 -- The world before any turn.
-abbrev pub new_seated : ℕ → Seated
-new_seated first = record { table = no_steps; shards = new_shards; first = first; next = []; seats = seats_to lane_count; turn = 0 }
+abbrev pub new_seated : ℕ → List Route → Seated
+new_seated first routes = record { table = no_steps; shards = new_shards; first = first; next = []; seats = seats_to lane_count; turn = 0; routes = routes }
 
 -- ---- what each call leaves
 

@@ -4,7 +4,7 @@ ghost use Rattle.std.specs.Prelude.{◌≡◌, ◌<◌, ◌++◌, ◌∷◌, [],
 ghost use Rattle.ov_model.specs.Sizes.{Fits};
 ghost use Rattle.ov_path.specs.declared.stage.Stage.TheVariants as stage;
 ghost use Rattle.ov_path.specs.Walks.{GoesOn, Progressed, MadeBy};
-ghost use Rattle.ov_core.specs.Seats.{Happened, Kept, itself, shown_of};
+ghost use Rattle.ov_core.specs.Seats.{Happened, Kept, shown_of, via_in};
 ghost use Rattle.ov_core.specs.Courses.{SomeCourse, TurnedIn, lane_of};
 ghost use Rattle.ov_core.specs.Sessions.{log_of};
 ghost use Rattle.ov_core.specs.Scripts.{LinesRanIn, RanLineIn, dealt, lanes_of};
@@ -154,11 +154,13 @@ fn take_turn(
     walk: &mut Walk,
     line: &Line,
 ) -> Result<Progress, Memory>
-    requires goes { GoesOn itself walk.old.place line.now (shown_of world.old) walk.old.stage }
+    requires goes { GoesOn (via_in world.old) walk.old.place line.now
+        (shown_of world.old) walk.old.stage }
     requires fits { Fits line.now.deed }
-    ensures then { IfOk result (Progressed itself walk.old.place line.now (shown_of world.new) walk.new.stage) }
-    ensures made { IfOk result (λ r.
-        MadeBy shown_of Happened itself walk.old.place line.now r world.old world.new) }
+    ensures then { IfOk result (Progressed (via_in world.old) walk.old.place line.now
+        (shown_of world.new) walk.new.stage) }
+    ensures made { IfOk result (λ r. MadeBy shown_of Happened (via_in world.old)
+        walk.old.place line.now r world.old world.new) }
     ensures place { walk.new.place ≡ walk.old.place }
     ensures kept { OnOk result (Kept world.new) }
 {

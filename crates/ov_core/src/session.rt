@@ -4,6 +4,7 @@ ghost use Rattle.std.specs.Prelude.{◌≡◌, ◌<◌, length, map, OnOk, IfOk}
 ghost use Rattle.std.specs.List.{AllByRecursion};
 ghost use Rattle.ov_model.specs.Legal.{Legal};
 ghost use Rattle.ov_model.specs.Sizes.{Fits};
+ghost use Rattle.ov_model.specs.Via.{via_of};
 ghost use Rattle.ov_core.specs.Sessions.{Scheduled, Serial, report_of};
 ghost use Rattle.ov_core.specs.Scripts.{AreCourses, RanOut, TookTurns, dealt, script_at};
 
@@ -13,18 +14,18 @@ use ov_base::Memory;
 use ov_model::{Line, Report, Script};
 use std::alloc::Global;
 
-/// Runs a script's lines in its order, each to its end on its lane, and gives the report. Send counters
-/// begin at `first`. `Err` is want of memory.
+/// Runs a script's lines in its order, each to its end on its lane, and gives the report. The next hop of an
+/// address is that of the script's routes. Send counters begin at `first`. `Err` is want of memory.
 pub fn run_serially(alloc: Global, script: Script, first: u32) -> Result<Report, Memory>
     requires lanes { AllByRecursion (λ line. line.lane < 64) script.lines }
     requires fits { AllByRecursion (λ line. Fits line.deed) script.lines }
-    ensures serial { IfOk result (Serial (λ a. a) script first) }
+    ensures serial { IfOk result (Serial (via_of script.routes) script first) }
     ensures lanes { IfOk result (λ report. length report.lanes ≡ 64) }
     ensures legal { IfOk result (Legal script first) }
 {
-    let Script { lines } = script;
+    let Script { lines, routes } = script;
     let order = order_of(alloc, lines.as_slice())?;
-    let mut world = World::new(alloc, first)?;
+    let mut world = World::new(alloc, first, routes)?;
     let mut courses = deal(alloc, lines.into_vec())?;
     for lane in order.as_slice() {
         courses[*lane as usize].run_line(alloc, &mut world)?;
@@ -34,7 +35,8 @@ pub fn run_serially(alloc: Global, script: Script, first: u32) -> Result<Report,
 
 /// Runs a script by a schedule, and gives the report: for each number of the schedule that lane makes its
 /// next turn, or nothing where it has no line left; then the lanes run to their end, in the order of their
-/// numbers. Send counters begin at `first`. `Err` is want of memory.
+/// numbers. The next hop of an address is that of the script's routes. Send counters begin at `first`. `Err` is
+/// want of memory.
 pub fn run_schedule(
     alloc: Global,
     script: Script,
@@ -44,12 +46,13 @@ pub fn run_schedule(
     requires lanes { AllByRecursion (λ line. line.lane < 64) script.lines }
     requires fits { AllByRecursion (λ line. Fits line.deed) script.lines }
     requires known { AllByRecursion (λ lane. lane < 64) schedule.now }
-    ensures scheduled { IfOk result (Scheduled (λ a. a) script first schedule.now) }
+    ensures scheduled { IfOk result
+        (Scheduled (via_of script.routes) script first schedule.now) }
     ensures lanes { IfOk result (λ report. length report.lanes ≡ 64) }
     ensures legal { IfOk result (Legal script first) }
 {
-    let Script { lines } = script;
-    let mut world = World::new(alloc, first)?;
+    let Script { lines, routes } = script;
+    let mut world = World::new(alloc, first, routes)?;
     let mut courses = deal(alloc, lines.into_vec())?;
     take_turns(alloc, &mut courses, &mut world, schedule)?;
     run_all(alloc, &mut courses, &mut world)?;

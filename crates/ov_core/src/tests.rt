@@ -5,11 +5,11 @@ ghost use Rattle.std.specs.List.{AllByRecursion};
 ghost use Rattle.ov_model.specs.Sizes.{Fits};
 
 use crate::{run_schedule, run_serially};
-use ov_base::{Boxed, ListOf, Memory, Octets};
+use ov_base::{Addr, Boxed, ListOf, Memory, Octets, Transport};
 use ov_model::netlink::NO_ATTRIBUTES;
 use ov_model::{
     Answer, Cipher, Deed, DropCause, KeyId, Line, NlKeyConf, NlKeyDir, NlMessage, NlOp, NlPeer,
-    NoteBody, PeerId, Reply, Report, Script, Slot,
+    NoteBody, PeerId, Reply, Report, Route, Script, Slot,
 };
 use std::alloc::Global;
 use std::test::Fail;
@@ -84,6 +84,7 @@ fn two_packets(alloc: Global) -> Result<Script, Memory>
     lines.push(line(0, Deed::Tx(Octets::of(alloc, &PACKET)?)))?;
     Ok(Script {
         lines: ListOf::of_vec(lines),
+        routes: ListOf::new(alloc),
     })
 }
 
@@ -112,7 +113,45 @@ fn removal(alloc: Global) -> Result<Script, Memory>
     lines.push(line(1, Deed::Netlink(Boxed::new(alloc, peer_del())?)))?;
     Ok(Script {
         lines: ListOf::of_vec(lines),
+        routes: ListOf::new(alloc),
     })
+}
+
+/// An inner packet: an IPv4 header of 20 bytes from 10.8.0.5 to 192.168.5.9.
+const ROUTED: [u8; 20] = [
+    0x45, 0, 0, 0x14, 0, 0, 0, 0, 0x40, 0x11, 0, 0, 10, 8, 0, 5, 192, 168, 5, 9,
+];
+
+/// Its datagram for peer id 5, key id 2, packet id 1: the head 4a000005 00000001, and the tag and the ciphertext
+/// of Python's `cryptography` 48.0.0, `AESGCM(bytes([7]) * 16).encrypt` with the nonce 00000001
+/// 0909090909090909 and the head as associated data; it puts the tag last.
+const SEALED: [u8; 44] = [
+    0x4a, 0x00, 0x00, 0x05, 0x00, 0x00, 0x00, 0x01, 0x73, 0x7f, 0xd1, 0xfb, 0xf0, 0xff, 0x1f, 0x2d,
+    0xa8, 0x14, 0x93, 0x0e, 0xac, 0x57, 0x8a, 0x4d, 0x44, 0x55, 0xc9, 0xf7, 0x6d, 0x88, 0x42, 0x9c,
+    0xfa, 0xaa, 0x20, 0x18, 0x74, 0x5a, 0x42, 0x1f, 0x89, 0x1d, 0xc5, 0xbe,
+];
+
+/// The script that makes peer 5, with the address 10.8.0.5 inside the tunnel, and its key, and sends that packet.
+fn routed(alloc: Global, routes: Vec<Route>) -> Result<Script, Memory>
+    ensures fits { IfOk result (λ script. AllByRecursion (λ line. Fits line.deed) script.lines) }
+    ensures lanes { IfOk result (λ script. AllByRecursion (λ line. line.lane < 64) script.lines) }
+{
+    let mut lines = Vec::new(alloc);
+    lines.push(line(0, Deed::Netlink(Boxed::new(alloc, peer_new())?)))?;
+    lines.push(line(0, Deed::Netlink(Boxed::new(alloc, key_new(alloc)?)?)))?;
+    lines.push(line(0, Deed::Tx(Octets::of(alloc, &ROUTED)?)))?;
+    Ok(Script {
+        lines: ListOf::of_vec(lines),
+        routes: ListOf::of_vec(routes),
+    })
+}
+
+/// The answer of the packet that the script sends.
+fn third(report: &Report) -> Option<&Answer> {
+    let [lane, ..] = report.lanes.as_slice() else {
+        return None;
+    };
+    lane.answers.as_slice().get(2)
 }
 
 /// The lanes of the steps of a report.
@@ -195,5 +234,48 @@ fn a_key_seals_with_its_last_id_and_is_then_let_go(rt: HostRuntime) -> Result<()
     };
     assert_eq!(rt; (note.entry, note.body), (5, swap));
     assert_eq!(rt; report.shards.len(), 8);
+    Ok(())
+}
+
+#[test]
+fn a_packet_goes_to_the_peer_that_a_route_leads_to(rt: HostRuntime) -> Result<(), Fail> {
+    // 192.168.5.0/24 has the next hop 10.8.0.5, which is peer 5.
+    let route = Route {
+        prefix: Addr::V4([192, 168, 5, 0]),
+        length: 24,
+        hop: Addr::V4([10, 8, 0, 5]),
+    };
+    let serial = run_serially(
+        rt.alloc(),
+        routed(rt.alloc(), Vec::from_array(rt.alloc(), [route])?)?,
+        1,
+    )?;
+    let Some(Answer::Sealed(out)) = third(&serial) else {
+        panic!(rt; "not sealed");
+    };
+    let remote = Transport {
+        addr: Addr::V4([192, 0, 2, 1]),
+        port: 1194,
+    };
+    assert_eq!(rt; (out.to, out.key, out.id), (remote, 0, 1));
+    assert_eq!(rt; out.datagram.as_slice(), &SEALED[..]);
+    let turns = run_schedule(
+        rt.alloc(),
+        routed(rt.alloc(), Vec::from_array(rt.alloc(), [route])?)?,
+        1,
+        &[0, 0, 0],
+    )?;
+    assert_eq!(rt; third(&turns), third(&serial));
+    Ok(())
+}
+
+#[test]
+fn a_packet_goes_to_nobody_without_a_route(rt: HostRuntime) -> Result<(), Fail> {
+    let none = routed(rt.alloc(), Vec::new(rt.alloc()))?;
+    let report = run_serially(rt.alloc(), none, 1)?;
+    assert_eq!(rt; third(&report), Some(&Answer::Dropped(DropCause::NoPeer)));
+    let none = routed(rt.alloc(), Vec::new(rt.alloc()))?;
+    let report = run_schedule(rt.alloc(), none, 1, &[0, 0, 0])?;
+    assert_eq!(rt; third(&report), Some(&Answer::Dropped(DropCause::NoPeer)));
     Ok(())
 }

@@ -18,7 +18,9 @@ use crate::past::{Happening, Judged};
 use crate::seat::Seat;
 use ov_base::{Addr, ListOf, Memory};
 use ov_keys::KeyPair;
-use ov_model::{Act, Call, Drawn, Entry, Given, Note, Owed, Place, ReplayEntry, Reply, Verdict};
+use ov_model::{
+    Act, Call, Drawn, Entry, Given, Note, Owed, Place, ReplayEntry, Reply, Route, Verdict, via_of,
+};
 use ov_path::Desk;
 use ov_replay::Shard;
 use ov_table::Table;
@@ -43,6 +45,8 @@ pub struct World {
     seats: Vec<Seat>,
     // The lane that has its turn.
     turn: usize,
+    // The routes of the script.
+    routes: ListOf<Route>,
 }
 
 impl Model for World {
@@ -57,6 +61,7 @@ impl Model for World {
       next = d.next.items;
       seats = d.seats.items;
       turn = d.turn;
+      routes = d.routes;
     } };
 
     ghost invariant = { λ d. Kept (record {
@@ -66,13 +71,14 @@ impl Model for World {
       next = d.next.items;
       seats = d.seats.items;
       turn = d.turn;
+      routes = d.routes;
     }) };
 }
 
 impl World {
-    /// The world before any turn. Send counters will begin at `first`.
-    pub fn new(alloc: Global, first: u32) -> Result<World, Memory>
-        ensures { IfOk result (λ d. d ≡ new_seated first) }
+    /// The world before any turn, with the routes of its script. Send counters will begin at `first`.
+    pub fn new(alloc: Global, first: u32, routes: ListOf<Route>) -> Result<World, Memory>
+        ensures { IfOk result (λ d. d ≡ new_seated first routes) }
     {
         let shards = new_shards(alloc)?;
         let seats = new_seats(alloc)?;
@@ -83,6 +89,7 @@ impl World {
             next: Vec::new(alloc),
             seats,
             turn: 0,
+            routes,
         })
     }
 
@@ -183,7 +190,7 @@ impl Desk for World {
     }
 
     fn via(&self, addr: Addr) -> Addr {
-        addr
+        via_of(self.routes.as_slice(), addr)
     }
 }
 

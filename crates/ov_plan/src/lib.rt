@@ -3,7 +3,11 @@
 
 mod command;
 pub mod saying;
+#[cfg(test)]
+mod saying_tests;
 mod schedule;
+#[cfg(test)]
+mod word_tests;
 pub mod words;
 
 pub use saying::{About, said};

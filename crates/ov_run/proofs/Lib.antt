@@ -2,7 +2,3 @@
 pub mod Reporting
 -- A text that is written in parts.
 pub mod Telling
--- The words of a run.
-pub mod Words
--- The text of a schedule and its parts between the commas.
-pub mod Schedules

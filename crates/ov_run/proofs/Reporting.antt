@@ -10,10 +10,10 @@ use Rattle.ov_model.specs.declared.report.LaneLog.{LaneLog}
 use Rattle.ov_model.specs.Legal.{Legal}
 use Rattle.ov_core.specs.Sessions.{Lane, log_of}
 use Rattle.ov_script.specs.Reading.{AreLines, Gave, GaveSome, IsScript, HasNoStop, Counts, whole_lines}
-use Rattle.ov_run.specs.declared.plan.Mode.{Mode}
-use Rattle.ov_run.specs.declared.plan.Mode.TheVariants.{Trace, Steps}
-use Rattle.ov_run.specs.declared.plan.RunPlan.{RunPlan}
-use Rattle.ov_run.specs.Plan.{IsPlan}
+use Rattle.ov_plan.specs.declared.words.Mode.{Mode}
+use Rattle.ov_plan.specs.declared.words.Mode.TheVariants.{Trace, Steps}
+use Rattle.ov_plan.specs.declared.words.RunPlan.{RunPlan}
+use Rattle.ov_plan.specs.Plan.{IsPlan}
 use Rattle.ov_run.specs.Clauses.{Answered, Read, Reported, Runs, RunsIn, EndsBy, Counted, CountedRun, cause_of_stop, lanes_read}
 use Rattle.ov_script.specs.declared.script.ReadStop.{ReadStop}
 use Rattle.ov_script.specs.declared.script.ReadStop.TheVariants as stop
@@ -25,9 +25,9 @@ logs_plain : (lanes : List Lane) → AllByRecursion (λ log. (log.recorded ≡ 0
 logs_plain [] = tt
 logs_plain (lane ∷ lanes) = ((refl, refl), logs_plain lanes)
 
-runs_plain : (mode : Mode) (schedule : List ℕ) (script : Script) (report : Report) → RunsIn mode schedule script report → AllByRecursion (λ log. (log.recorded ≡ 0) × (log.unsent ≡ [])) report.lanes
-runs_plain Trace schedule script report runs = rw runs.report_is (logs_plain runs.last.lanes)
-runs_plain Steps schedule script report runs = rw runs.report_is (logs_plain runs.last.lanes)
+runs_plain : (mode : Mode) (first : ℕ) (schedule : List ℕ) (script : Script) (report : Report) → RunsIn mode first schedule script report → AllByRecursion (λ log. (log.recorded ≡ 0) × (log.unsent ≡ [])) report.lanes
+runs_plain Trace first schedule script report runs = rw runs.report_is (logs_plain runs.last.lanes)
+runs_plain Steps first schedule script report runs = rw runs.report_is (logs_plain runs.last.lanes)
 
 -- A log with as many answers as lines, none of which came from a link.
 all_answered : (logs : List LaneLog) → AllByRecursion (λ log. (log.recorded ≡ 0) × (log.unsent ≡ [])) logs → ((lane : ℕ) (log : LaneLog) → slice_get logs lane ≡ Some log → length log.answers ≡ length log.lines) → AllByRecursion Answered logs
@@ -38,7 +38,7 @@ all_answered (log ∷ logs) plain each = (
 )
 
 -- What is known of a report, as one fact: its script is that of the bytes that were read.
-pub reported : (words : List (List ℕ)) (plan : RunPlan) (before now : Option (List ℕ)) (report : Option Report) (script : Script) → IsPlan words plan → IfSome report (Runs plan script) → IfSome report (Legal script 1) → IfSome report (λ r. length r.lanes ≡ lanes_read)
+pub reported : (words : List (List ℕ)) (plan : RunPlan) (before now : Option (List ℕ)) (report : Option Report) (script : Script) → IsPlan words plan → IfSome report (Runs plan script) → IfSome report (Legal script plan.first_id) → IfSome report (λ r. length r.lanes ≡ lanes_read)
     → IsAtEnd now → ((taken : List ℕ) → Gave before now taken → (now ≡ Some []) × IsScript taken lanes_read script) → ((taken : List ℕ) → Gave before now taken → HasNoStop taken lanes_read) → IfSome report (Reported words before now)
 reported words plan before now None script is_plan runs legal lanes ended read no_stop = tt
 reported words plan before now (Some r) script is_plan runs legal lanes ended read no_stop = record {
@@ -48,7 +48,7 @@ reported words plan before now (Some r) script is_plan runs legal lanes ended re
   runs = runs;
   legal = legal;
   lanes = lanes;
-  answered = all_answered r.lanes (runs_plain plan.mode plan.schedule script r runs) (λ lane log at. (legal.lanes.each lane log at).answered);
+  answered = all_answered r.lanes (runs_plain plan.mode plan.first_id plan.schedule script r runs) (λ lane log at. (legal.lanes.each lane log at).answered);
   ended = ended;
   read = λ taken gave. let its : (now ≡ Some []) × IsScript taken lanes_read script = read taken gave in
       (its.0, record { no_stop = no_stop taken gave; is_script = its.1 });
@@ -94,11 +94,11 @@ was_read (stop.Limit l) is = cc
 was_read stop.Memory is = cc
 
 -- A source that told what it held, and is at its end, gave all of it: so a report is legal for its script.
-pub read_all : (words : List (List ℕ)) (held now : List ℕ) (report : Option Report) → GaveSome (Some held) (Some now) → IfSome report (Reported words (Some held) (Some now)) → IfSome report (λ r. (script : Script) × Read held script × Legal script 1 r)
+pub read_all : (words : List (List ℕ)) (held now : List ℕ) (report : Option Report) → GaveSome (Some held) (Some now) → IfSome report (Reported words (Some held) (Some now)) → IfSome report (λ r. (plan : RunPlan) × IsPlan words plan × ((script : Script) × Read held script × Legal script plan.first_id r))
 read_all words held now None gave is = tt
 read_all words held now (Some r) gave is =
-    let P : List ℕ → Type 0 = λ b. (script : Script) × Read b script × Legal script 1 r in
+    let P : List ℕ → Type 0 = λ b. (script : Script) × Read b script × Legal script is.plan.first_id r in
     let had : held ≡ gave.0 ++ gave.1.left = cc (gave.1.had) in
     let left : gave.1.left ≡ [] = cc (gave.1.has, is.ended) in
     let all : gave.0 ≡ held = sym (append-nil gave.0) ∙ ap (λ (l : List ℕ). gave.0 ++ l) (sym left) ∙ sym had in
-    subst P all (is.script, (is.read gave.0 gave.1).1, is.legal)
+    (is.plan, is.is_plan, subst P all (is.script, (is.read gave.0 gave.1).1, is.legal))

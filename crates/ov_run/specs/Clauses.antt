@@ -10,10 +10,10 @@ use Rattle.ov_model.specs.declared.report.Report.{Report}
 use Rattle.ov_model.specs.declared.report.LaneLog.{LaneLog}
 use Rattle.ov_model.specs.Legal.{Legal}
 use Rattle.ov_core.specs.Sessions.{Serial, Scheduled}
-use Rattle.ov_run.specs.declared.plan.Mode.{Mode}
-use Rattle.ov_run.specs.declared.plan.Mode.TheVariants.{Trace, Steps}
-use Rattle.ov_run.specs.declared.plan.RunPlan.{RunPlan}
-use Rattle.ov_run.specs.Plan.{IsPlan}
+use Rattle.ov_plan.specs.declared.words.Mode.{Mode}
+use Rattle.ov_plan.specs.declared.words.Mode.TheVariants.{Trace, Steps}
+use Rattle.ov_plan.specs.declared.words.RunPlan.{RunPlan}
+use Rattle.ov_plan.specs.Plan.{IsPlan}
 use Rattle.ov_script.specs.Reading.{Gave, IsScript, HasNoStop, Early, Stop, Event, bad_line, passed, whole_lines, ended_lines}
 use Rattle.ov_script.specs.declared.script.ReadStop.{ReadStop}
 use Rattle.ov_script.specs.declared.script.ReadStop.TheVariants as stop
@@ -54,14 +54,14 @@ IsStop cause.WriteFault = ⊥
 IsStop cause.Memory = ⊥
 
 -- The report of a mode.
-abbrev pub RunsIn : Mode → List ℕ → Script → Report → Type 0
-RunsIn Trace schedule script report = Serial (λ a. a) script 1 report
-RunsIn Steps schedule script report = Scheduled (λ a. a) script 1 schedule report
+abbrev pub RunsIn : Mode → ℕ → List ℕ → Script → Report → Type 0
+RunsIn Trace first schedule script report = Serial (λ a. a) script first report
+RunsIn Steps first schedule script report = Scheduled (λ a. a) script first schedule report
 
 -- The report is that of the plan's mode: each line to its end in the script's order, or by the plan's
--- schedule. The first packet id of every key is 1, and no line gives a route.
+-- schedule. The first packet id of every key is the plan's, and no line gives a route.
 abbrev pub Runs : RunPlan → Script → Report → Type 0
-Runs plan script report = RunsIn plan.mode plan.schedule script report
+Runs plan script report = RunsIn plan.mode plan.first_id plan.schedule script report
 
 -- The script of the bytes that were read.
 pub record Read (taken : List ℕ) (script : Script) : Type 0 where
@@ -82,7 +82,7 @@ pub record Reported (words : List (List ℕ)) (before now : Option (List ℕ)) (
   pub is_plan : IsPlan words plan
   pub script : Script
   pub runs : Runs plan script report
-  pub legal : Legal script 1 report
+  pub legal : Legal script plan.first_id report
   pub lanes : length report.lanes ≡ lanes_read
   pub answered : AllByRecursion Answered report.lanes
   pub ended : IsAtEnd now

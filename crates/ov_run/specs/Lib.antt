@@ -1,4 +1,3 @@
 pub mod Status
 pub mod Clauses
 pub mod Told
-pub mod Plan

@@ -1,6 +1,6 @@
 //! The top call: words, script, run, report.
 
-ghost use Rattle.std.specs.Prelude.{◌≡◌, ◌≢◌, ◌<◌, ◌↔◌, ℕ, List, None, length, map, string_bytes, IfOk, IfSome};
+ghost use Rattle.std.specs.Prelude.{◌≡◌, ◌≢◌, ◌<◌, ◌⊎◌, ℕ, List, None, length, map, string_bytes, IfOk, IfSome};
 ghost use Rattle.std.specs.Io.KnownBytes.{IsAtEnd};
 ghost use Rattle.std.specs.List.{AllByRecursion};
 ghost use Rattle.ov_base.specs.Outside.{Rose};
@@ -9,19 +9,16 @@ ghost use Rattle.ov_model.specs.Sizes.{Fits};
 ghost use Rattle.ov_script.specs.Reading as reading;
 ghost use Rattle.ov_run.specs.declared.ended.Cause.TheVariants as cause;
 ghost use Rattle.ov_run.specs.Clauses as spec;
-ghost use Rattle.ov_run.specs.Plan.{HasPlan};
+ghost use Rattle.ov_plan.specs.Plan.{HasPlan};
 
 use crate::ended::{Cause, Ended};
-use crate::plan::{Mode, PlanStop, RunPlan, plan};
 use ov_base::{Memory, Sink, Source};
 use ov_core::{run_schedule, run_serially};
 use ov_model::{Report, Script};
+use ov_plan::{Mode, PlanStop, RunPlan, plan};
 use ov_report::{PrintStop, print_report};
 use ov_script::{ReadStop, Reading, read_script};
 use std::alloc::Global;
-
-/// The first packet id that each key sends: a nonce of 0 is never used.
-const FIRST_ID: u32 = 1;
 
 /// The number of lanes: a line's lane is below it, and a report has a log for each.
 const LANES: u32 = 64;
@@ -44,12 +41,12 @@ fn report_of(alloc: Global, plan: RunPlan, script: Script) -> Result<Report, Mem
     requires lanes { AllByRecursion (λ line. line.lane < spec.lanes_read) script.lines }
     requires schedule { AllByRecursion (λ lane. lane < spec.lanes_read) plan.schedule }
     ensures ran { IfOk result (spec.Runs plan script) }
-    ensures legal { IfOk result (Legal script 1) }
+    ensures legal { IfOk result (Legal script plan.first_id) }
     ensures lanes { IfOk result (λ report. length report.lanes ≡ spec.lanes_read) }
 {
     match plan.mode {
-        Mode::Trace => run_serially(alloc, script, FIRST_ID),
-        Mode::Steps => run_schedule(alloc, script, FIRST_ID, plan.schedule.as_slice()),
+        Mode::Trace => run_serially(alloc, script, plan.first_id),
+        Mode::Steps => run_schedule(alloc, script, plan.first_id, plan.schedule.as_slice()),
     }
 }
 
@@ -69,7 +66,7 @@ fn ran<K: Sink>(
         (K.faults sink.new) result }
     ensures kept { result.cause ≡ cause.Fine → K.faults sink.new ≡ K.faults sink.old }
     ensures ran { IfSome result.report (spec.Runs plan script) }
-    ensures legal { IfSome result.report (Legal script 1) }
+    ensures legal { IfSome result.report (Legal script plan.first_id) }
     ensures lanes { IfSome result.report (λ report. length report.lanes ≡ spec.lanes_read) }
 {
     let Ok(report) = report_of(alloc, plan, script) else {
@@ -95,16 +92,20 @@ fn ran<K: Sink>(
 /// Nothing is written before the script was read to its end and found good.
 ///
 /// `words` are the words after the program's name. The answer's cause is `Usage` exactly where they are those of
-/// no plan (see `plan`): `trace` runs each line to its end, and `steps` lets the lanes take turns by its schedule.
+/// no plan (see `plan`), or `Memory`: `trace` runs each line to its end, and `steps` lets the lanes take turns by
+/// its schedule. The counter of each key begins at the plan's first id.
 pub fn run_serial<S: Source, K: Sink>(
     alloc: Global,
     words: &[String],
     source: &mut S,
     sink: &mut K,
 ) -> Ended
-    // Usage: exactly where the words aren't a plan, and nothing is read, run or written.
-    ensures usage { (result.cause ≡ cause.Usage) ↔ ¬ (HasPlan (map string_bytes words.now)) }
-    ensures unread { result.cause ≡ cause.Usage →
+    // Usage: only where the words aren't a plan. Where they aren't, it is answered, or want of memory, and
+    // nothing is read, run or written.
+    ensures usage { result.cause ≡ cause.Usage → ¬ (HasPlan (map string_bytes words.now)) }
+    ensures no_plan { ¬ (HasPlan (map string_bytes words.now)) →
+        (result.cause ≡ cause.Usage) ⊎ (result.cause ≡ cause.Memory) }
+    ensures unread { ¬ (HasPlan (map string_bytes words.now)) →
         (result.report ≡ None) × (source.new ≡ source.old) × (sink.new ≡ sink.old) }
 
     // Bytes: a source that tells what it has left tells which bytes were taken, and after a run that ended

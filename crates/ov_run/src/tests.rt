@@ -1,16 +1,20 @@
 //! Whole runs over sources and sinks in memory, in pieces of 16 bytes.
 
-ghost use Rattle.std.specs.Prelude.{IfSome};
+ghost use Rattle.std.specs.Prelude.{IfSome, map, string_bytes};
 ghost use Rattle.ov_model.specs.declared.line.Script.{Script};
 ghost use Rattle.ov_model.specs.Legal.{Legal};
+ghost use Rattle.ov_plan.specs.declared.words.RunPlan.{RunPlan};
+ghost use Rattle.ov_plan.specs.Plan.{IsPlan};
 ghost use Rattle.ov_run.specs.Clauses.{Read};
 
 use crate::ended::{Cause, Ended};
 use crate::run::run_serial;
-use crate::told::tell;
+use crate::told::{say, tell};
 use ov_base::{ListOf, Memory, MemorySink, MemorySource, Octets, Sink};
+use ov_plan::About;
 use ov_script::Limit;
 use std::alloc::Global;
+use std::process::Abort;
 use std::test::Fail;
 
 const PEER5: &str =
@@ -108,6 +112,43 @@ fn a_bad_line_or_another_word_runs_nothing(rt: HostRuntime) -> Result<(), Fail> 
     Ok(())
 }
 
+/// A run with these words, which are no plan's, reads and writes nothing; its status is 1, and it tells the usage.
+fn tells_usage(rt: &impl Abort, alloc: Global, words: &[&str]) -> Result<(), Fail> {
+    let (ended, written) = ran(alloc, words, PEER5.as_bytes(), &[], &[])?;
+    assert_eq!(rt; ended.status(), 1);
+    assert_eq!(rt; ended.read_lines, 0);
+    assert!(rt; ended.report.is_none());
+    assert!(rt; written.is_empty());
+    let mut sink = MemorySink::new(alloc, 16, ListOf::new(alloc));
+    assert_eq!(rt; tell(ended.cause, &mut sink), Ok(()));
+    assert_eq!(rt;
+        sink.written(),
+        b"ovpn: usage: ovpn MODE [options]\n".as_slice()
+    );
+    Ok(())
+}
+
+#[test]
+fn words_without_a_plan_run_nothing_and_tell_the_usage(rt: HostRuntime) -> Result<(), Fail> {
+    tells_usage(&rt, rt.alloc(), &[])?;
+    tells_usage(&rt, rt.alloc(), &["trace", "--lanes", "0"])?;
+    tells_usage(&rt, rt.alloc(), &["steps", "--schedule", "0,,1"])?;
+    tells_usage(&rt, rt.alloc(), &["--help"])?;
+    Ok(())
+}
+
+#[test]
+fn what_the_program_says_is_written_whole_or_a_write_failed(rt: HostRuntime) -> Result<(), Fail> {
+    let alloc = rt.alloc();
+    let mut sink = MemorySink::new(alloc, 16, ListOf::new(alloc));
+    assert_eq!(rt; say(About::Version.text(), &mut sink), Cause::Fine);
+    assert_eq!(rt; sink.written(), b"ovpn 0.1.0\n".as_slice());
+    let mut sink = MemorySink::new(alloc, 16, calls(alloc, &[1])?);
+    assert_eq!(rt; say(About::Help.text(), &mut sink), Cause::WriteFault);
+    assert_eq!(rt; sink.written(), b"ovpn: the data p".as_slice());
+    Ok(())
+}
+
 #[test]
 fn a_fault_at_any_call_is_told_and_changes_no_report(rt: HostRuntime) -> Result<(), Fail> {
     let (status, whole) = run(rt.alloc(), &["trace"], PEER5.as_bytes(), &[], &[])?;
@@ -136,7 +177,8 @@ fn a_fault_at_any_call_is_told_and_changes_no_report(rt: HostRuntime) -> Result<
 /// gave is known from what it held, and is no premise.
 fn traced<K: Sink>(alloc: Global, words: &[String], text: Octets, sink: &mut K) -> Ended
     ensures { IfSome result.report (λ report.
-        (script : Script) × Read text script × Legal script 1 report) }
+        (plan : RunPlan) × IsPlan (map string_bytes words.now) plan ×
+        ((script : Script) × Read text script × Legal script plan.first_id report)) }
 {
     let mut source = MemorySource::new(text, 16, ListOf::new(alloc));
     run_serial(alloc, words, &mut source, sink)

@@ -1,8 +1,10 @@
-//! What is told on standard error of how a run ended.
+//! What is told on standard error of how a run ended, and what the program says of itself.
 
-ghost use Rattle.std.specs.Prelude.{◌++◌, OnOk, OnErr, codes, decimal};
+ghost use Rattle.std.specs.Prelude.{◌≡◌, ◌≢◌, ◌++◌, OnOk, OnErr, codes, decimal};
 ghost use Rattle.std.specs.Io.KnownBytes.{Appends};
 ghost use Rattle.ov_base.specs.Loops.{AppendsPart};
+ghost use Rattle.ov_base.specs.Outside.{Rose};
+ghost use Rattle.ov_run.specs.declared.ended.Cause.TheVariants as cause;
 ghost use Rattle.ov_run.specs.Told.{text_of, told_line};
 
 use crate::ended::Cause;
@@ -41,4 +43,18 @@ fn tell_bad_line<K: Sink>(number: u64, sink: &mut K) -> Result<(), WriteFault>
     write_all(sink, digits.format(number).as_bytes())?;
     write_all(sink, b" is not in the grammar\n")?;
     Ok(())
+}
+
+/// Writes what the program says of itself, and gives the cause that this ends with: `Fine`, or `WriteFault`
+/// where a part was written.
+pub fn say<K: Sink>(text: &str, sink: &mut K) -> Cause
+    ensures whole { result ≡ cause.Fine → Appends (K.written sink.old) (K.written sink.new) text.now }
+    ensures fault { result ≢ cause.Fine → (result ≡ cause.WriteFault) ×
+        Rose (K.faults sink.old) (K.faults sink.new) ×
+        AppendsPart (K.written sink.old) (K.written sink.new) text.now }
+{
+    match write_all(sink, text.as_bytes()) {
+        Ok(()) => Cause::Fine,
+        Err(_) => Cause::WriteFault,
+    }
 }

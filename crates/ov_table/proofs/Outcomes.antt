@@ -1,6 +1,6 @@
 -- What a step of the definitions is where its peer was found.
 use Rattle.std.proofs.Common.{ℕ, ◌≡◌, List, [], ◌∷◌, ◌++◌, refl, append-nil, sym, ap, subst, ◌∙◌, Bool, true, false, ◌||◌, if◌then◌else◌}
-use Rattle.std.specs.Prelude.{Option, Some, None, Result, Ok, Err, IfOk, is_some, find, position, remove}
+use Rattle.std.specs.Prelude.{Option, Some, None, Result, Ok, Err, IfOk, is_some, find}
 use Rattle.std.specs.List.{list_any}
 use Rattle.ov_base.specs.declared.address.Transport.{Transport}
 use Rattle.ov_model.specs.declared.act.InnerKind.{InnerKind}
@@ -10,12 +10,12 @@ use Rattle.ov_model.specs.declared.command.KeyConf.{KeyConf}
 use Rattle.ov_model.specs.declared.command.Reason.{Reason}
 use Rattle.ov_model.specs.declared.reply.Reply.TheVariants as reply
 use Rattle.ov_model.specs.declared.reply.Errno.TheVariants.{NoEntry}
-use Rattle.ov_model.specs.Tables.{Peer, Key, Table, change_first, without_first, has_id, has_serial, by_id, by_serial, by_key}
-use Rattle.ov_model.specs.Step.{is_there, sent_peer, sent, received_peer, settled_peer, settled_as, settle, replied, refused, unless, where_found, key_new_checks, key_made, removals, remove_peer, key_new, spent_key, spend, has_key_serial, released, key_released}
+use Rattle.ov_model.specs.declared.command.Slot.{Slot}
+use Rattle.ov_model.specs.Tables.{Peer, Key, Table, change_first, without_first, has_id, has_serial, by_id, by_serial, by_key, swapped, with_slot, in_slot, key_if_any}
+use Rattle.ov_model.specs.Step.{is_there, sent_peer, sent, received_peer, settled_peer, settled_as, settle, replied, refused, unless, where_found, key_new_checks, key_made, removals, remove_peer, key_new, slots_changed, key_swap, key_del, spent_key, spend}
 use Rattle.ov_model.specs.declared.reply.Reply.{Reply}
 use Rattle.ov_table.specs.declared.outcome.Outcome.{Outcome}
 use Rattle.ov_table.specs.Outcomes.{serial_list, outcome, outcome_with}
-use Rattle.ov_table.proofs.Places.{first_at}
 
 pub one_taken : (key : Option ℕ) → serial_list key ++ [] ≡ serial_list key
 one_taken key = append-nil (serial_list key)
@@ -43,6 +43,14 @@ removed_found t now id reason p found = rw found refl
 pub key_new_found : (t : Table) (now : ℕ) (c : KeyConf) (p : Peer) → by_id c.peer t.live ≡ Some p → key_new t now c ≡ unless t now (key_new_checks t) (key_made t now c p)
 unfolding key_new
 key_new_found t now c p found = rw found refl
+
+pub swap_found : (t : Table) (now : ℕ) (id : PeerId) (p : Peer) → by_id id t.live ≡ Some p → key_swap t now id ≡ slots_changed t now id swapped []
+unfolding key_swap
+swap_found t now id p found = rw found refl
+
+pub del_found : (t : Table) (now : ℕ) (id : PeerId) (slot : Slot) (p : Peer) → by_id id t.live ≡ Some p → key_del t now id slot ≡ slots_changed t now id (with_slot slot None) (key_if_any (in_slot slot p.slots))
+unfolding key_del
+del_found t now id slot p found = rw found refl
 
 pub spent_found : (t : Table) (now peer key : ℕ) (p : Peer) → by_serial peer t.live ≡ Some p → spend t now peer key ≡ where_found t now reply.AlreadyGone (by_key key p.slots) (spent_key t now peer key p)
 unfolding spend
@@ -93,13 +101,3 @@ unfolding settle
 settled_dying t now peer from k inner outer s is there =
     let plain : outcome_with (record t { dying = change_first (has_serial peer) (λ p. settled_peer (settled_as peer k t.live) inner (received_peer now outer p)) t.dying; moment = now }) (reply.Settled (settled_as peer k t.live)) None None None ≡ settle t now peer from k inner outer = rw there refl in
     subst (λ x. outcome_with (record t { dying = change_first (has_serial peer) (λ p. settled_peer x inner (received_peer now outer p)) t.dying; moment = now }) (reply.Settled x) None None None ≡ settle t now peer from k inner outer) (sym is) plain
-
--- ---- releases
-
-pub released_as : (t : Table) (now serial i : ℕ) → position (has_serial serial) t.dying ≡ Some i → released t now serial ≡ replied (record t { dying = remove t.dying i }) now (reply.Released serial)
-unfolding released
-released_as t now serial i place = rw (first_at (has_serial serial) t.dying i place).without refl
-
-pub key_released_as : (t : Table) (now serial i : ℕ) → position (has_key_serial serial) t.retired ≡ Some i → key_released t now serial ≡ replied (record t { retired = remove t.retired i }) now (reply.KeyReleased serial)
-unfolding key_released
-key_released_as t now serial i place = rw (first_at (has_key_serial serial) t.retired i place).without refl

@@ -1,3 +1,4 @@
+pub mod Apart
 pub mod Recorded
 pub mod Cells
 pub mod Outcomes

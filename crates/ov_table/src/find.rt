@@ -1,9 +1,8 @@
-//! Looking peers and keys up: the first in the order of making that fits.
+//! Looking live peers and their keys up.
 
-ghost use Rattle.std.specs.Prelude.{◌≡◌, ◌<◌, ◌==◌, length, position, IfSome, option_copied};
+ghost use Rattle.std.specs.Prelude.{◌≡◌, option_copied};
 ghost use Rattle.ov_model.specs.Step as model;
-ghost use Rattle.ov_model.specs.Tables as tables;
-ghost use Rattle.ov_table.specs.Pairs.{live_key, retired_key};
+ghost use Rattle.ov_table.specs.Pairs.{live_key};
 
 use ov_base::Transport;
 use ov_index::{Index, Peer};
@@ -39,21 +38,6 @@ pub fn settled_as(live: &Index, serial: u32, kind: InnerKind) -> Settled
     }
 }
 
-/// The place in the list of the peer with a serial.
-pub fn place_of_serial(peers: &[Peer], serial: u32) -> Option<usize>
-    ensures place { result ≡ position (tables.has_serial serial) peers.now }
-    ensures within { IfSome result (λ i. i < length peers.now) }
-{
-    peers.iter().position(|peer| peer.serial == serial)
-}
-
-/// Whether a peer has this serial.
-pub fn has_serial(peers: &[Peer], serial: u32) -> bool
-    ensures { result ≡ model.is_there serial peers.now }
-{
-    peers.iter().any(|peer| peer.serial == serial)
-}
-
 /// The key with this serial in a slot of a peer.
 pub fn key_in_slots(live: &Index, key: u32) -> Option<&KeyRec>
     ensures { option_copied result ≡ live_key key live.now.live }
@@ -62,26 +46,4 @@ pub fn key_in_slots(live: &Index, key: u32) -> Option<&KeyRec>
         return None;
     };
     peer.slots.by_key(key)
-}
-
-/// The place in the list of the key with a serial.
-pub fn place_of_key(keys: &[KeyRec], serial: u32) -> Option<usize>
-    ensures place { result ≡ position (λ k. k.serial == serial) keys.now }
-    ensures within { IfSome result (λ i. i < length keys.now) }
-{
-    keys.iter().position(|key| key.serial == serial)
-}
-
-/// Whether a key has this serial.
-pub fn has_key_serial(keys: &[KeyRec], serial: u32) -> bool
-    ensures { result ≡ model.is_retired serial keys.now }
-{
-    keys.iter().any(|key| key.serial == serial)
-}
-
-/// The key with this serial.
-pub fn with_key_serial(keys: &[KeyRec], serial: u32) -> Option<&KeyRec>
-    ensures { option_copied result ≡ retired_key serial keys.now }
-{
-    keys.iter().find(|key| key.serial == serial)
 }

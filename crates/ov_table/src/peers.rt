@@ -1,6 +1,6 @@
 //! The lists of the live and the dying peers and of the retired keys, and the acts on them. It is kept
-//! true that at most 4,096 peers and 65,536 keys were ever made and that the lists hold no more peers than
-//! were made.
+//! true that at most 4,096 peers and 65,536 keys were ever made, that the lists hold no more peers than
+//! were made, and that no serial of a peer or of a key stands twice.
 
 ghost use Rattle.std.specs.Prelude.{◌≡◌, ◌≤◌, ◌+◌, ◌||◌, max, false, IfOk, IfSome, OnOk, OnErr, option_copied};
 ghost use Rattle.ov_model.specs.Step as model;
@@ -18,7 +18,7 @@ mod uses;
 use crate::find;
 use crate::outcome::Outcome;
 use ov_base::Memory;
-use ov_index::{Index, Peer};
+use ov_index::{Gone, Index, Peer};
 use ov_keys::{KeyPair, KeyRec};
 use ov_model::{Act, Errno, Owed, Reply};
 use std::alloc::Global;
@@ -30,8 +30,8 @@ use std::marker::Model;
 pub struct Peers {
     alloc: Global,
     live: Index,
-    dying: Vec<Peer>,
-    retired: Vec<KeyRec>,
+    dying: Gone<Peer>,
+    retired: Gone<KeyRec>,
     made: u32,
     keys_made: u32,
     moment: u32,
@@ -40,7 +40,8 @@ pub struct Peers {
 impl Model for Peers {
     ghost use Rattle.std.specs.Prelude.{◌≡◌, ◌≤◌, ◌+◌, length};
     ghost use Rattle.ov_model.specs.Limits.{most_peers, most_keys};
-    ghost use Rattle.ov_model.specs.Tables.{Table};
+    ghost use Rattle.ov_model.specs.Tables.{Table, serials_of, keys_of, key_serials};
+    ghost use Rattle.ov_table.specs.Apart.{Apart};
 
     ghost Value = { Table };
 
@@ -55,7 +56,9 @@ impl Model for Peers {
 
     ghost invariant = { λ t. (t.made ≤ most_peers) ×
         (length t.live.live + length t.dying.items ≤ t.made) × (t.keys_made ≤ most_keys) ×
-        (t.live.made ≡ t.made) × (t.live.keys_made ≡ t.keys_made) };
+        (t.live.made ≡ t.made) × (t.live.keys_made ≡ t.keys_made) ×
+        (Apart (serials_of t.live.live) (serials_of t.dying.items) t.made) ×
+        (Apart (key_serials (keys_of t.live.live)) (key_serials t.retired.items) t.keys_made) };
 }
 
 impl Peers {
@@ -66,8 +69,8 @@ impl Peers {
         Peers {
             alloc,
             live: Index::new(alloc),
-            dying: Vec::new(alloc),
-            retired: Vec::new(alloc),
+            dying: Gone::new(alloc),
+            retired: Gone::new(alloc),
             made: 0,
             keys_made: 0,
             moment: 0,
@@ -97,11 +100,10 @@ impl Peers {
             Act::Do(_) | Act::TxLook(_) | Act::RxLook { .. } => true,
             Act::Sent { peer, .. } | Act::Settle { peer, .. } => self.is_there(peer),
             Act::Spend { peer, key } => {
-                self.is_there(peer)
-                    && (self.live.has_key(key) || find::has_key_serial(&self.retired, key))
+                self.is_there(peer) && (self.live.has_key(key) || self.retired.has(key))
             }
-            Act::Released(peer) => find::has_serial(&self.dying, peer),
-            Act::KeyReleased(key) => find::has_key_serial(&self.retired, key),
+            Act::Released(peer) => self.dying.has(peer),
+            Act::KeyReleased(key) => self.retired.has(key),
         }
     }
 
@@ -110,7 +112,7 @@ impl Peers {
         ensures { result ≡
             (model.is_there peer self.now.live || model.is_there peer self.now.dying) }
     {
-        self.live.has_serial(peer) || find::has_serial(&self.dying, peer)
+        self.live.has_serial(peer) || self.dying.has(peer)
     }
 
     /// What may be let go first: a retired key, or else a dying peer.
@@ -132,7 +134,7 @@ impl Peers {
         if let Some(key) = find::key_in_slots(&self.live, key) {
             return Some(&key.pair);
         }
-        let key = find::with_key_serial(&self.retired, key)?;
+        let key = self.retired.find(key)?;
         Some(&key.pair)
     }
 

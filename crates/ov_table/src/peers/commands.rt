@@ -10,7 +10,6 @@ ghost use Rattle.ov_table.specs.Recorded.{unreleased};
 use super::Peers;
 use crate::outcome::Outcome;
 use crate::retired::{retire, retire_all};
-use crate::room::push_within;
 use ov_base::{Boxed, ListOf, Memory};
 use ov_keys::KeyRec;
 use ov_model::limits::{MOST_KEYS, MOST_PEERS};
@@ -120,8 +119,8 @@ impl Peers {
         let serial = peer.serial;
         let reply = Reply::Removed(ListOf::of_vec(Vec::from_slice(self.alloc, &[serial])?));
         let kept = Reply::Removed(ListOf::of_vec(Vec::from_slice(self.alloc, &[serial])?));
-        self.dying.reserve(1)?;
-        self.retired.reserve(2)?;
+        self.dying.make_room(1, self.made)?;
+        self.retired.make_room(2, self.keys_made)?;
         let Some(mut peer) = self.live.remove(id) else {
             unreachable!();
         };
@@ -130,7 +129,7 @@ impl Peers {
             id: peer.id,
             reason,
         });
-        push_within(&mut self.dying, peer);
+        self.dying.join(peer);
         self.moment = now;
         Ok(Outcome {
             reply,
@@ -172,7 +171,7 @@ impl Peers {
         }
         let serial = self.keys_made;
         let key = KeyRec::of(self.alloc, serial, conf)?;
-        self.retired.reserve(1)?;
+        self.retired.make_room(1, self.keys_made)?;
         let was = self.live.install(conf.peer, conf.slot, key)?;
         let first = retire(&mut self.retired, was);
         self.keys_made += 1;

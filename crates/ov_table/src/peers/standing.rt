@@ -99,7 +99,7 @@ impl Peers {
         if self.live.by_id(id).is_none() {
             return Ok(self.refuse(now, Errno::NoEntry));
         }
-        self.retired.reserve(1)?;
+        self.retired.make_room(1, self.keys_made)?;
         let taken = self.live.take_key(id, slot);
         let first = retire(&mut self.retired, taken);
         self.moment = now;

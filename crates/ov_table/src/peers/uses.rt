@@ -1,8 +1,8 @@
 //! What is done with a held peer and key.
 
-ghost use Rattle.std.specs.Prelude.{◌≡◌, ◌≤◌, ◌+◌, true, false, length, Some, IfOk, OnOk, OnErr};
+ghost use Rattle.std.specs.Prelude.{◌≡◌, ◌≤◌, ◌+◌, true, Some, IfOk, OnOk, OnErr};
 ghost use Rattle.ov_model.specs.Step as model;
-ghost use Rattle.ov_model.specs.Tables.{change_first, has_serial, by_serial, by_key};
+ghost use Rattle.ov_model.specs.Tables.{by_serial, by_key};
 ghost use Rattle.ov_model.specs.declared.reply.Reply.TheVariants as reply;
 ghost use Rattle.ov_model.specs.Tables as tables;
 ghost use Rattle.ov_table.specs.Outcomes.{outcome};
@@ -11,10 +11,8 @@ ghost use Rattle.ov_table.specs.Recorded.{unreleased};
 use super::Peers;
 use crate::find;
 use crate::outcome::Outcome;
-use crate::room::push_within;
 use ov_base::{Memory, Transport};
-use ov_index::Peer;
-use ov_model::{InnerKind, NoteBody, Reply, Settled};
+use ov_model::{InnerKind, NoteBody, Reply};
 
 impl Peers {
     /// A datagram was sealed for a held peer, live or dying: it is counted, a ping outside the tunnel alone.
@@ -29,7 +27,7 @@ impl Peers {
         if self.live.sent(peer, now, inner, outer, ping) {
             return done;
         }
-        sent_in(&mut self.dying, peer, now, inner, outer, ping);
+        self.dying.sent(peer, now, inner, outer, ping);
         done
     }
 
@@ -59,7 +57,7 @@ impl Peers {
         if there {
             return Ok(done);
         }
-        settle_in(&mut self.dying, peer, now, settled, inner, outer);
+        self.dying.settle(peer, now, settled, inner, outer);
         Ok(done)
     }
 
@@ -90,7 +88,7 @@ impl Peers {
         ensures more { OnOk result (unreleased self.new ≤ unreleased self.old + 2) }
         ensures err { OnErr result (self.new ≡ self.old) }
     {
-        self.retired.reserve(1)?;
+        self.retired.make_room(1, self.keys_made)?;
         self.moment = now;
         let Some(held) = self.live.by_serial(peer) else {
             unreachable!();
@@ -106,7 +104,7 @@ impl Peers {
             id,
             key_id: killed.key_id,
         });
-        push_within(&mut self.retired, killed);
+        self.retired.join(killed);
         Ok(Outcome {
             reply: Reply::Killed,
             kept: Reply::Killed,
@@ -115,43 +113,4 @@ impl Peers {
             second: None,
         })
     }
-}
-
-/// Counts a sent datagram at the first peer with a serial: whether there is one.
-fn sent_in(peers: &mut Vec<Peer>, serial: u32, now: u32, inner: u32, outer: u32, ping: bool) -> bool
-    ensures there { result ≡ model.is_there serial peers.old.items }
-    ensures peers { peers.new.items ≡
-        change_first (has_serial serial) (model.sent_peer now inner outer ping) peers.old.items }
-    ensures absent { result ≡ false → peers.new.items ≡ peers.old.items }
-    ensures long { length peers.new.items ≡ length peers.old.items }
-{
-    let Some(place) = find::place_of_serial(peers, serial) else {
-        return false;
-    };
-    peers[place].sent(now, inner, outer, ping);
-    true
-}
-
-/// Settles a received datagram at the first peer with a serial: whether there is one.
-fn settle_in(
-    peers: &mut Vec<Peer>,
-    serial: u32,
-    now: u32,
-    settled: Settled,
-    inner: u32,
-    outer: u32,
-) -> bool
-    ensures there { result ≡ model.is_there serial peers.old.items }
-    ensures peers { peers.new.items ≡
-        change_first (has_serial serial)
-        (λ p. model.settled_peer settled inner (model.received_peer now outer p))
-        peers.old.items }
-    ensures absent { result ≡ false → peers.new.items ≡ peers.old.items }
-    ensures long { length peers.new.items ≡ length peers.old.items }
-{
-    let Some(place) = find::place_of_serial(peers, serial) else {
-        return false;
-    };
-    peers[place].settle(now, None, settled, inner, outer);
-    true
 }

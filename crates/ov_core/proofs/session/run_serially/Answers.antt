@@ -4,6 +4,7 @@ use Rattle.std.specs.Prelude.{map, Some, slice_get}
 use Rattle.ov_model.specs.declared.line.Line.{Line}
 use Rattle.ov_model.specs.declared.report.Report.{Report}
 use Rattle.ov_model.specs.Legal.{Legal}
+use Rattle.ov_model.specs.Via.{via_of}
 use Rattle.ov_core.specs.Seats.{new_seated}
 use Rattle.ov_core.specs.Sessions.{Serial}
 use Rattle.ov_core.specs.Courses.{Coursed}
@@ -42,7 +43,7 @@ loop-lane-preserved c =
     let below : lane < 64 = order_below c.args.script.lines order c.loop-lane.lane-index its c.requires.lanes c.loop-lane-test.true in
     let long : length items ≡ 64 = c.loop-lane.invariant.are.count in
     let at : slice_get items lane ≡ Some c.index_mut.result.now = read_there items lane c.index_mut.result.now (omega arith) c.index_mut.ensures.value in
-    serial_step c.args.script.lines order c.loop-lane.lane-index (new_seated c.args.first) c.loop-lane.world c.run_line.new.world (dealt c.args.script.lines) items c.index_mut.result.now c.run_line.new.self c.in_ok-run_line.field-0 its c.loop-lane-test.true c.loop-lane.invariant at c.in_ok-run_line.ensures
+    serial_step c.args.script.lines order c.loop-lane.lane-index (new_seated c.args.first c.args.script.routes) c.loop-lane.world c.run_line.new.world (dealt c.args.script.lines) items c.index_mut.result.now c.run_line.new.self c.in_ok-run_line.field-0 its c.loop-lane-test.true c.loop-lane.invariant at c.in_ok-run_line.ensures
 
 ran : (c : goal.After-drop-order-2) → RanSerially c.args.script c.args.first c.loop-lane.world c.loop-lane.courses.items
 ran c =
@@ -51,7 +52,7 @@ ran c =
     serial_at c.args.script c.args.first order c.loop-lane.lane-index c.loop-lane.world c.loop-lane.courses.items its c.loop-lane-test.false c.loop-lane.invariant
 
 pub returns-clause-serial : goal.returns-clause-serial
-returns-clause-serial c = if_ok c.report.result c.report.ensures (λ r is. subst (λ (x : Report). Serial (λ a. a) c.args.script c.args.first x) (sym is) (ran c).serial)
+returns-clause-serial c = if_ok c.report.result c.report.ensures (λ r is. subst (λ (x : Report). Serial (via_of c.args.script.routes) c.args.script c.args.first x) (sym is) (ran c).serial)
 
 pub returns-clause-legal : goal.returns-clause-legal
 returns-clause-legal c = if_ok c.report.result c.report.ensures (λ r is. subst (λ (x : Report). Legal c.args.script c.args.first x) (sym is) ((ran c).legal c.requires.lanes))

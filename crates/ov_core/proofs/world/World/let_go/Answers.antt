@@ -22,6 +22,7 @@ now c = record {
   next = (was c).next;
   seats = slice_set (slice_set (was c).seats (was c).turn c.let_go.new.self) (was c).turn c.gave.new.self;
   turn = (was c).turn;
+  routes = (was c).routes;
 }
 
 done : (c : goal.After-self-2-1) → EventDone (was c) (gave c.args.owed (given_back (was c) c.args.owed)) (after_gave (was c) c.args.owed)
@@ -32,7 +33,7 @@ made c = gave_is (was c) c.args.owed c.index_mut.result.now c.let_go.new.self c.
     (record { x_is = c.index_mut.ensures.value; left_is = c.let_go.ensures; y_is = c.index_mut-2.ensures.value }) c.gave.ensures c.as_slice.ensures.value c.last_of-given.ensures
 
 is : (c : goal.After-self-2-1) → now c ≡ after_gave (was c) c.args.owed
-is c = same_world (now c) (after_gave (was c) c.args.owed) refl refl refl refl (made c).1 refl
+is c = same_world (now c) (after_gave (was c) c.args.owed) refl refl refl refl refl (made c).1 refl
 
 pub invariant_of-self : goal.invariant_of-self
 invariant_of-self c = subst Kept (sym (is c)) (done c).kept

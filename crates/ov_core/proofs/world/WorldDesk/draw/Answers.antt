@@ -33,6 +33,7 @@ now c = record {
   next = slice_set (was c).next c.args.key c.following.result;
   seats = slice_set (was c).seats (was c).turn c.saw.new.self;
   turn = (was c).turn;
+  routes = (was c).routes;
 }
 
 read : (c : goal.After-self-2-1) → c.index-next.result.now ≡ get_or (was c).next c.args.key (was c).first
@@ -47,7 +48,7 @@ drew : (c : goal.After-self-2-1) → c.drawn-result.result ≡ drawn_of (get_or 
 drew c = c.drawn-result.ensures ∙ ap drawn_of (read c)
 
 is : (c : goal.After-self-2-1) → now c ≡ after_drawn (was c) c.args.key
-is c = same_world (now c) (after_drawn (was c) c.args.key) refl refl refl
+is c = same_world (now c) (after_drawn (was c) c.args.key) refl refl refl refl
     (ap (λ v. slice_set (was c).next c.args.key v) (c.following.ensures ∙ ap next_after (read c)))
     (ap (λ s. slice_set (was c).seats (was c).turn s) (c.saw.ensures
     ∙ ap (λ (s : Sitting). record s { events = s.events ++ Drew c.args.key c.drawn-result.result ∷ [] }) (read_seat (was c) c.index_mut-2.result.now c.self.invariant c.index_mut-2.ensures.value)

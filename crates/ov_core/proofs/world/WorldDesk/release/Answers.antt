@@ -31,13 +31,14 @@ now c = record {
   next = (was c).next;
   seats = slice_set (was c).seats (was c).turn c.released.new.self;
   turn = (was c).turn;
+  routes = (was c).routes;
 }
 
 done : (c : goal.Joined-reply) → EventDone (was c) (Stepped (release_of c.args.place c.args.at c.args.owed)) (after_release (was c) c.args.place c.args.at c.args.owed)
 done c = release_done (was c) c.args.place c.args.at c.args.owed c.self.invariant (subst (λ (d : Seated). first_owed (shown_of d).owing ≡ Some c.args.owed) (sym c.self.view_is) c.requires.first)
 
 is : (c : goal.Joined-reply) → now c ≡ after_release (was c) c.args.place c.args.at c.args.owed
-is c = same_world (now c) (after_release (was c) c.args.place c.args.at c.args.owed)
+is c = same_world (now c) (after_release (was c) c.args.place c.args.at c.args.owed) refl
     (c.in-Ok.ensures.stepped ∙ ap (λ call. stepped (was c).table c.args.place call) c.release_call-call.ensures) refl refl refl
     (ap (λ s. slice_set (was c).seats (was c).turn s) (c.released.ensures
     ∙ released_is (was c) c.args.place c.args.at c.args.owed c.index_mut.result.now c.release_call-call.result c.in-Ok.reply c.step.new.self c.self.invariant c.index_mut.ensures.value c.release_call-call.ensures c.in-Ok.ensures.reply c.in-Ok.ensures.stepped))

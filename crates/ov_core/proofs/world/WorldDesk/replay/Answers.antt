@@ -23,6 +23,7 @@ now c = record {
   next = (was c).next;
   seats = slice_set (was c).seats (was c).turn c.saw.new.self;
   turn = (was c).turn;
+  routes = (was c).routes;
 }
 
 shard_is : (c : goal.After-self-2-1) → slice_get (was c).shards (c.args.key % 8) ≡ Some c.index_mut.result.now
@@ -37,7 +38,7 @@ verdict_is : (c : goal.After-self-2-1) → c.in_ok-verdict.verdict ≡ (judged c
 verdict_is c = c.in_ok-verdict.ensures.verdict
 
 is : (c : goal.After-self-2-1) → now c ≡ after_judged (was c) c.index_mut.result.now c.args.place c.args.key c.args.id c.args.at
-is c = same_world (now c) (after_judged (was c) c.index_mut.result.now c.args.place c.args.key c.args.id c.args.at) refl
+is c = same_world (now c) (after_judged (was c) c.index_mut.result.now c.args.place c.args.key c.args.id c.args.at) refl refl
     (ap (λ s. slice_set (was c).shards (c.args.key % 8) s) c.in_ok-verdict.ensures.ok) refl refl
     (ap (λ s. slice_set (was c).seats (was c).turn s) (c.saw.ensures
     ∙ ap (λ (s : Sitting). record s { events = s.events ++ judged_at c.args.place c.args.key c.args.id c.args.at c.in_ok-verdict.verdict ∷ [] }) (read_seat (was c) c.index_mut-2.result.now c.self.invariant c.index_mut-2.ensures.value)

@@ -23,9 +23,9 @@ step-requires c =
 pub invariant_of-self-in_err-reply : goal.invariant_of-self-in_err-reply
 invariant_of-self-in_err-reply c =
     let d : Seated = the_view c.self.inside in
-    let now : Seated = record { table = c.step.new.self; shards = d.shards; first = d.first; next = c.reserve.new.self.items; seats = slice_set d.seats d.turn c.begin.new.self; turn = d.turn } in
+    let now : Seated = record { table = c.step.new.self; shards = d.shards; first = d.first; next = c.reserve.new.self.items; seats = slice_set d.seats d.turn c.begin.new.self; turn = d.turn; routes = d.routes } in
     let is : now ≡ record d { seats = slice_set d.seats d.turn (seat_begun c.args.call.now.act (seat_of d)) } =
-    same_world now (record d { seats = slice_set d.seats d.turn (seat_begun c.args.call.now.act (seat_of d)) }) c.in_err-reply.ensures.memory refl refl c.in_ok-reserve.ensures.items
+    same_world now (record d { seats = slice_set d.seats d.turn (seat_begun c.args.call.now.act (seat_of d)) }) refl c.in_err-reply.ensures.memory refl refl c.in_ok-reserve.ensures.items
     (ap (λ (s : Sitting). slice_set d.seats d.turn s) (c.in_ok-begin.ensures.ok ∙ ap (λ (s : Sitting). seat_begun c.args.call.now.act s) (read_seat d c.index_mut.result.now c.self.invariant c.index_mut.ensures.value))) refl in
     (begun d now c.args.call.now.act c.self.invariant is).kept
 
@@ -70,6 +70,7 @@ now c = record {
   next = c.count_key.new.next.items;
   seats = slice_set c.owe_removed.new.seats.items (was c).turn c.stepped.new.self;
   turn = (was c).turn;
+  routes = (was c).routes;
 }
 
 may : (c : goal.After-self-2-1) → MayCall (shown_of (was c)) c.args.call.now.act
@@ -82,7 +83,7 @@ taken_is : (c : goal.After-self-2-1) → c.taken.result.now ≡ (step (was c).ta
 taken_is c = c.taken.ensures ∙ ap (λ (r : Recorded). r.taken) c.in_ok-reply.ensures.stepped
 
 is : (c : goal.After-self-2-1) → now c ≡ after_call (was c) c.args.place c.args.call.now c.in_ok-reply.reply
-is c = same_world (now c) (after_call (was c) c.args.place c.args.call.now c.in_ok-reply.reply) c.in_ok-reply.ensures.stepped refl refl
+is c = same_world (now c) (after_call (was c) c.args.place c.args.call.now c.in_ok-reply.reply) refl c.in_ok-reply.ensures.stepped refl refl
     (c.count_key.ensures ∙ ap (λ ns. ns ++ map (λ _. (was c).first) (key_made_by c.args.call.now.act c.in_ok-reply.reply)) c.in_ok-reserve.ensures.items)
     (called_seats (was c) c.args.place c.args.call.now c.in_ok-reply.reply c.begin.new.self c.index_mut-2.result.now c.stepped.new.self c.taken.result.now c.removed_by.result.now c.owe_removed.new.seats.items c.step.new.self c.self.invariant
     (readies (was c) c.args.place c.args.call.now c.index_mut.result.now c.begin.new.self c.taken.result.now c.removed_by.result.now c.self.invariant (may c) c.index_mut.ensures.value c.in_ok-begin.ensures.ok (taken_is c) (c.removed_by.ensures ∙ ap removed c.in_ok-reply.ensures.reply))

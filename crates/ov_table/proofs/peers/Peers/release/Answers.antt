@@ -1,11 +1,28 @@
-use Rattle.std.proofs.Common.{rules}
-use Rattle.ov_model.specs.Tables.{has_serial}
-use Rattle.ov_table.proofs.Places.{place_there}
-use Rattle.ov_table.proofs.Outcomes.{released_as}
+use Rattle.std.proofs.Common.{arith, ◌≡◌, ◌≤◌, ◌+◌, ◌∙◌, sym, ap, length, true}
+use Rattle.ov_model.specs.Tables.{Peer, Table, has_serial, serials_of}
+use Rattle.ov_model.specs.Step as model
+use Rattle.ov_table.specs.Recorded.{unreleased}
+use Rattle.ov_table.proofs.Apart.{let_go, length_let_go}
 use Rattle.ov_table.proofs.peers.Peers.release.Goals as goal
 
-pub unreachable-requires : goal.unreachable-requires
-unreachable-requires c = place_there (has_serial c.args.serial) c.self.inside.dying.items (search rules) (search rules)
+pub invariant_of-self : goal.invariant_of-self
+invariant_of-self c =
+    let lists : c.self.inside.dying.items ≡ c.args.self.now.dying = ap (λ (x : Table). x.dying) c.self.view_is in
+    let there : model.is_there c.args.serial c.self.inside.dying.items ≡ true = rw lists c.requires in
+    let less : length c.take.new.self.items + 1 ≡ length c.self.inside.dying.items = ap (λ xs. length xs + 1) c.take.ensures.now ∙ length_let_go (has_serial c.args.serial) c.self.inside.dying.items there in (
+      c.self.invariant.0,
+      (let fits : length c.self.inside.live.live + length c.self.inside.dying.items ≤ c.self.inside.made = c.self.invariant.1 in omega arith),
+      c.self.invariant.2,
+      c.self.invariant.3,
+      c.self.invariant.4,
+      rw c.take.ensures.now (let_go (λ (x : Peer). x.serial) (serials_of c.self.inside.live.live) c.self.inside.dying.items c.self.inside.made c.args.serial there c.self.invariant.5),
+      c.self.invariant.6,
+    )
 
-pub returns-clause-value : goal.returns-clause-value
-returns-clause-value c = rw (released_as c.args.self.now c.args.now c.args.serial c.in-Some.place (search rules)) (search rules)
+pub returns-clause-fewer : goal.returns-clause-fewer
+returns-clause-fewer c =
+    let lists : c.self.inside.dying.items ≡ c.args.self.now.dying = ap (λ (x : Table). x.dying) c.self.view_is in
+    let there : model.is_there c.args.serial c.self.inside.dying.items ≡ true = rw lists c.requires in
+    let less : length c.take.new.self.items + 1 ≡ length c.self.inside.dying.items = ap (λ xs. length xs + 1) c.take.ensures.now ∙ length_let_go (has_serial c.args.serial) c.self.inside.dying.items there in
+    let was : unreleased c.args.self.now ≡ length c.self.inside.live.live + length c.self.inside.dying.items + length c.self.inside.retired.items = sym (ap unreleased c.self.view_is) in
+    omega arith

@@ -1,0 +1,123 @@
+-- The passes of a shared table: what contracts see of one, and what a call makes of it.
+use Rattle.std.specs.Prelude.{◌≡◌, ℕ, zero, suc, ◌+◌, ◌<◌, List, [], ◌∷◌, ◌++◌, Option, Some, length, map, filter, ◌==◌}
+use Rattle.std.specs.List.{AllByRecursion}
+use mathlib.Core.List.{IsPrefix}
+use mathlib.Core.Option.{some}
+use lib.ListN.{get_elem?}
+use Rattle.ov_base.specs.Sums.{total, count_of}
+use Rattle.ov_turn.specs.Seats.{Name, Sight}
+use Rattle.ov_model.specs.declared.act.Act.TheVariants as act
+use Rattle.ov_model.specs.declared.act.Call.{Call}
+use Rattle.ov_model.specs.declared.command.Command.{Command}
+use Rattle.ov_model.specs.declared.entry.Entry.{Entry}
+use Rattle.ov_model.specs.declared.hold.Owed.{Owed}
+use Rattle.ov_model.specs.declared.note.Note.{Note}
+use Rattle.ov_model.specs.declared.place.Place.{Place}
+use Rattle.ov_model.specs.declared.reply.Reply.{Reply}
+use Rattle.ov_model.specs.Step.{step}
+use Rattle.ov_model.specs.Path.{SomeOwed, removed}
+use Rattle.ov_model.specs.Runs.{IsRun, last_table, notes_of}
+use Rattle.ov_model.specs.Removals.{AllReleased, EachReleasedOnce}
+use Rattle.ov_model.specs.Lifetime.{PeersStayReleased, KeysStayReleased}
+use Rattle.ov_model.specs.Own.{RiseFrom, positions}
+use Rattle.ov_lane.specs.Within.{from_position, entries_of, made_by}
+
+-- A pass: which lock's it is, its number, how many of its lines are answered, and what its seat has.
+pub record Passing : Type 0 where
+  pub name : Option Name
+  pub number : ℕ
+  pub lines : ℕ
+  pub sight : Sight Entry
+
+-- It holds nothing and owes no release.
+pub record IsFree (p : Passing) : Type 0 where
+  pub holds : p.sight.holds ≡ []
+  pub owes : p.sight.owes ≡ []
+
+-- The call that makes a command.
+abbrev pub call_of : ℕ → Command → Call
+call_of at command = record { at = at; act = act.Do command }
+
+-- A command was served at some place. At its entry the history was `before`, which begins with what the seat
+-- had seen: the reply is the serial table's there. What the seat has seen now ends with this call's entry and
+-- the releases `os` that it owed, and these are its new entries, each once.
+pub record IsCalled (old new : Sight Entry) (place : Place) (at : ℕ) (command : Command) (r : Reply) : Type 0 where
+  pub before : List Entry
+  pub os : List Owed
+  pub front : IsPrefix old.seen before
+  pub run : IsRun new.seen
+  pub reply : r ≡ (step (last_table before) (call_of at command)).reply
+  pub some : SomeOwed (step (last_table before) (call_of at command)).taken (removed r) os
+  pub seen : new.seen ≡ before ++ entries_of (made_by (last_table before) place at command os)
+  pub own : new.own ≡ old.own ++ from_position (length before) (entries_of (made_by (last_table before) place at command os))
+  pub share : new.share ≡ old.share
+  pub holds : new.holds ≡ old.holds
+  pub owes : new.owes ≡ []
+
+-- Nothing was made, though more may have been seen.
+pub record HasSeen (old new : Sight Entry) : Type 0 where
+  pub front : IsPrefix old.seen new.seen
+  pub same : new ≡ record old { seen = new.seen }
+
+-- The pass's next line was answered.
+pub record CallDone (old new : Passing) (at : ℕ) (command : Command) (r : Reply) : Type 0 where
+  pub called : IsCalled old.sight new.sight (record { lane = old.number; line = old.lines }) at command r
+  pub same : new ≡ record old { lines = old.lines + 1; sight = new.sight }
+
+-- There was no memory for it.
+pub record CallRefused (old new : Passing) : Type 0 where
+  pub seen : HasSeen old.sight new.sight
+  pub same : new ≡ record old { sight = new.sight }
+
+-- A shared table: its name, and the share of its lock that no pass has.
+pub record Shared : Type 0 where
+  pub name : Name
+  pub left : ℕ
+
+-- A pass is the table's.
+abbrev pub IsPassOf : Shared → Passing → Type 0
+IsPassOf o p = p.name ≡ Some o.name
+
+-- A pass before its first line.
+abbrev pub fresh : Name → ℕ → Passing
+fresh name number = record { name = Some name; number = number; lines = 0; sight = record { share = 2; seen = []; own = []; holds = []; owes = [] } }
+
+-- So many passes before their first lines, numbered from a number on.
+abbrev pub fresh_from : Name → (number count : ℕ) → List Passing
+fresh_from name number zero = []
+fresh_from name number (suc count) = fresh name number ∷ fresh_from name (suc number) count
+
+-- These are all passes of the table, and each holds nothing and owes no release.
+pub record AreAllPasses (o : Shared) (passes : List Passing) : Type 0 where
+  pub of : AllByRecursion (IsPassOf o) passes
+  pub free : AllByRecursion IsFree passes
+  pub numbers : RiseFrom 0 (map (λ p. p.number) passes)
+  pub shares : o.left + total (λ p. p.sight.share) passes ≡ 4294967296
+
+-- What a pass has seen begins the journal, and the entries with its number are exactly its own, in order, each at
+-- its position.
+pub record IsPart (journal : List Entry) (p : Passing) : Type 0 where
+  pub seen : IsPrefix p.sight.seen journal
+  pub own : filter (λ e. e.place.lane == p.number) journal ≡ map (λ e. e.1) p.sight.own
+  pub at : AllByRecursion (λ e. get_elem? journal e.0 ≡ some e.1) p.sight.own
+
+-- The passes share one history: a run with its notes, of which each has seen a beginning, in which each has its own
+-- entries, and which has no others.
+pub record OneHistory (journal : List Entry) (notes : List Note) (passes : List Passing) : Type 0 where
+  pub run : IsRun journal
+  pub notes_are : notes ≡ notes_of journal
+  pub each : AllByRecursion (IsPart journal) passes
+  pub within : AllByRecursion (λ e. 0 < count_of e.place.lane (map (λ p. p.number) passes)) journal
+
+-- Every peer that was removed and every key that left its slot is let go, exactly once, and named no more behind that.
+pub record LastReleases (journal : List Entry) : Type 0 where
+  pub all : AllReleased journal
+  pub once : EachReleasedOnce journal
+  pub peers : PeersStayReleased journal
+  pub keys : KeysStayReleased journal
+
+-- A pass's own entries have its number, and their positions rise below the length of what it has seen.
+pub record IsOrderly (p : Passing) : Type 0 where
+  pub rise : RiseFrom 0 (positions p.sight.own)
+  pub below : AllByRecursion (λ e. e.0 < length p.sight.seen) p.sight.own
+  pub placed : AllByRecursion (λ e. e.1.place.lane ≡ p.number) p.sight.own

@@ -1,0 +1,133 @@
+//! Passes made from the seat of a lock, and taken in again.
+ghost use Rattle.std.specs.Prelude.{◌≡◌, ◌+◌, ◌*◌, ◌<◌, ◌≤◌, ◌++◌, [], length, map, Some, IfOk};
+ghost use Rattle.std.specs.List.{AllByRecursion};
+ghost use Rattle.std.specs.Vec.{vec_capacity};
+ghost use mathlib.Core.List.{IsPrefix};
+ghost use Rattle.ov_turn.specs.Seats.{IsSeatOf, share_of, seen_of, own_of, holds_of, owes_of, name_of};
+ghost use Rattle.ov_model.specs.Own.{RiseFrom};
+ghost use Rattle.ov_lane.specs.Within.{HasRoom};
+ghost use Rattle.ov_lane.specs.Passes.{fresh, fresh_from, IsFree, IsOrderly};
+ghost use Rattle.ov_lane.specs.Inner.{IsBlank, IsSpare, HasTaken};
+
+use crate::pass::Pass;
+use ov_base::Memory;
+use ov_model::Owed;
+use ov_table::{CELLS, Table};
+use ov_turn::{LockSeat, TicketLock};
+use std::alloc::Global;
+
+// Room for every release that a pass may come to owe.
+fn room(alloc: Global) -> Result<Vec<Owed>, Memory>
+    ensures { IfOk result (λ owed. HasRoom owed) }
+{
+    let mut owed = Vec::new(alloc);
+    owed.reserve(CELLS as usize)?;
+    Ok(owed)
+}
+
+/// Rooms for so many passes.
+pub(crate) fn rooms(alloc: Global, count: u32) -> Result<Vec<Vec<Owed>>, Memory>
+    ensures long { IfOk result (λ rooms. length rooms.items ≡ count) }
+    ensures each { IfOk result (λ rooms. AllByRecursion HasRoom rooms.items) }
+{
+    let mut rooms = Vec::new(alloc);
+    for _number in 0..count {
+        rooms.push(room(alloc)?)?;
+    }
+    Ok(rooms)
+}
+
+/// Cuts a pass off: two shares, so that one may be handed on.
+fn cut(
+    lock: &TicketLock<Table>,
+    seat: LockSeat<Table>,
+    number: u32,
+    owed: Vec<Owed>,
+) -> (LockSeat<Table>, Pass)
+    requires blank { IsBlank lock.now seat }
+    requires share { 3 ≤ share_of seat }
+    requires room { HasRoom owed }
+    ensures blank { IsBlank lock.entry.now result.0 }
+    ensures share { share_of result.0 + 2 ≡ share_of seat }
+    ensures pass { result.1 ≡ fresh (name_of lock.entry.now) number }
+{
+    let (seat, one) = lock.split(seat);
+    let (seat, two) = lock.split(seat);
+    let pass = Pass {
+        number,
+        lines: 0,
+        seat: Some(lock.join(one, two)),
+        owed,
+    };
+    (seat, pass)
+}
+
+/// Makes a pass for each room, numbered from 0.
+pub(crate) fn deal(
+    lock: &TicketLock<Table>,
+    mut seat: LockSeat<Table>,
+    count: u32,
+    mut rooms: Vec<Vec<Owed>>,
+    passes: &mut Vec<Pass>,
+) -> LockSeat<Table>
+    requires blank { IsBlank lock.now seat }
+    requires share { 2 * count < share_of seat }
+    requires long { length rooms.items ≡ count }
+    requires each { AllByRecursion HasRoom rooms.items }
+    requires nothing { passes.old.items ≡ [] }
+    requires room { count ≤ vec_capacity passes.old }
+    ensures blank { IsBlank lock.entry.now result }
+    ensures share { share_of result + 2 * count ≡ share_of seat }
+    ensures passes { passes.new.items ≡ fresh_from (name_of lock.entry.now) 0 count }
+{
+    for number in 0..count {
+        let Some(owed) = rooms.pop() else {
+            unreachable!()
+        };
+        let (rest, pass) = cut(lock, seat, number, owed);
+        seat = rest;
+        passes.push_reserved(pass);
+    }
+    seat
+}
+
+/// Takes a pass's seat in.
+fn take_in(lock: &TicketLock<Table>, whole: LockSeat<Table>, pass: Pass) -> LockSeat<Table>
+    requires whole { IsSeatOf lock.now whole }
+    requires name { pass.name ≡ Some (name_of lock.now) }
+    requires holds { (holds_of whole ≡ []) × (owes_of whole ≡ []) }
+    requires free { IsFree pass }
+    ensures lock { IsSeatOf lock.entry.now result }
+    ensures share { share_of result ≡ share_of whole + pass.sight.share }
+    ensures seen { IsPrefix (seen_of whole) (seen_of result) × IsPrefix pass.sight.seen (seen_of result) }
+    ensures own { own_of result ≡ own_of whole ++ pass.sight.own }
+    ensures holds { (holds_of result ≡ []) × (owes_of result ≡ []) }
+    ensures orderly { IsOrderly pass }
+{
+    let Pass { seat, .. } = pass;
+    let Some(seat) = seat else { unreachable!() };
+    lock.join(whole, seat)
+}
+
+/// Takes all passes in, the last first.
+pub(crate) fn gather(
+    lock: &TicketLock<Table>,
+    spare: LockSeat<Table>,
+    mut passes: Vec<Pass>,
+) -> LockSeat<Table>
+    requires spare { IsSpare lock.now spare }
+    requires of { AllByRecursion (λ p. p.name ≡ Some (name_of lock.now)) passes.items }
+    requires free { AllByRecursion IsFree passes.items }
+    requires numbers { RiseFrom 0 (map (λ p. p.number) passes.items) }
+    ensures { HasTaken lock.entry.now (share_of spare) passes.items result }
+{
+    let count = passes.len();
+    let mut whole = spare;
+    for _taken in 0..count {
+        let Some(pass) = passes.pop() else {
+            unreachable!()
+        };
+        whole = take_in(lock, whole, pass);
+    }
+    whole
+}

@@ -1,0 +1,12 @@
+//! The table shared by threads: a call of a pass is one step under its ticket of the lock, with the links and
+//! unlinks of the cells and the releases that it owes.
+#![tactic(auto)]
+
+mod dealing;
+mod ovpn;
+mod pass;
+mod ticket;
+mod within;
+
+pub use ovpn::{Closed, Ovpn};
+pub use pass::Pass;
