@@ -1,9 +1,10 @@
 -- Values of plain numbers and texts: their compact text reads as the value.
-use Rattle.std.proofs.Common.{◌≡◌, ◌∙◌, subst, ℕ, ◌<◌, ◌≤◌, ◌^◌, List, [], ◌∷◌, ◌++◌, Bool, true, false, Some, Ok, refl, sym, ap, ap₂, append-nil, append_assoc, arith}
+use Rattle.std.proofs.Common.{◌≡◌, ◌∙◌, subst, ℕ, ◌<◌, ◌≤◌, ◌^◌, List, [], ◌∷◌, ◌++◌, Bool, true, false, Some, Ok, refl, sym, ap, ap₂, append-nil, append_assoc, arith, length, get_or, Fits, w8}
 use Rattle.std.specs.Char.{digit_value}
 use Rattle.std.specs.Str.Parse.{AllDigits}
 use Rattle.std.specs.Net.Grammar.{IsDotted}
-use Rattle.std.specs.Net.Text.{dotted_text}
+use Rattle.std.specs.Net.Text.{dotted_text, ipv4_text}
+use Rattle.std.proofs.NetLemmas.Texts.{IsDotted-ipv4_text}
 use Rattle.std.proofs.lemmas.Grind.{flat_map-append}
 use Rattle.std.specs.Prelude.{⊤, decimal, option_and_then}
 use Rattle.std.specs.List.{AllPass}
@@ -26,8 +27,8 @@ use Rattle.serde_json.specs.Data.{Data, null, boolean, number, string, array, ob
 use Rattle.serde_json.specs.Read.{read, of_json, max_depth}
 use Rattle.serde_json.specs.Written.{outline, members_outline, compact_text, members_text, comma_if}
 use Rattle.serde_json.proofs.Texts.{print-outline}
-use Rattle.hex.specs.Hex.{is_hex_digit, decode_of}
-use Rattle.hex.proofs.HexLemmas.{decode_of-ok}
+use Rattle.hex.specs.Hex.{is_hex_digit, decode_of, encode_lower}
+use Rattle.hex.proofs.HexLemmas.{decode_of-ok, decode_of-encode_lower}
 
 -- A value of objects, whole numbers without a sign, and texts in UTF-8.
 abbrev mutual
@@ -109,6 +110,10 @@ escape_digits (c ∷ cs) h =
 pub escape_decoded : (s bytes : List ℕ) → decode_of s ≡ Ok bytes → (escape s ≡ s) × IsUtf8 s
 escape_decoded s bytes h = let both = escape_digits s (decode_of-ok s bytes h).1 in (both.0, IsUtf8-from_ascii s both.1)
 
+-- So do the digits of bytes.
+pub escape_hex : (bytes : List ℕ) → ((k : ℕ) → Fits w8 (get_or bytes k 0)) → (escape (encode_lower bytes) ≡ encode_lower bytes) × IsUtf8 (encode_lower bytes)
+escape_hex bytes fits = escape_decoded (encode_lower bytes) bytes (decode_of-encode_lower bytes (λ k. (fits k).fits))
+
 -- So do the decimal digits and the dots of an address.
 digit_of_ten : (c : ℕ) → digit_value c < 10 → (32 ≤ c) × (c < 128) × (c ≡ 34 → ⊥) × (c ≡ 92 → ⊥)
 digit_of_ten c h = grind (arith)
@@ -141,3 +146,6 @@ escape_dotted text octets h =
       with_dot h.a _ h.fit.0 (with_dot h.b _ h.fit.1 (with_dot h.c _ h.fit.2 (escape_decimal h.d h.fit.3))),
       with_dot_utf8 h.a _ h.fit.0 (with_dot_utf8 h.b _ h.fit.1 (with_dot_utf8 h.c _ h.fit.2 (utf8_decimal h.d h.fit.3))),
     )
+
+pub escape_ipv4 : (octets : List ℕ) → length octets ≡ 4 → ((k : ℕ) → get_or octets k 0 < 256) → (escape (ipv4_text octets) ≡ ipv4_text octets) × IsUtf8 (ipv4_text octets)
+escape_ipv4 octets four fits = escape_dotted (ipv4_text octets) octets (IsDotted-ipv4_text octets four fits)
