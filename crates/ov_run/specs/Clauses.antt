@@ -14,7 +14,7 @@ use Rattle.ov_plan.specs.declared.words.Mode.{Mode}
 use Rattle.ov_plan.specs.declared.words.Mode.TheVariants.{Trace, Steps}
 use Rattle.ov_plan.specs.declared.words.RunPlan.{RunPlan}
 use Rattle.ov_plan.specs.Plan.{IsPlan}
-use Rattle.ov_script.specs.Reading.{Gave, IsScript, HasNoStop, Early, Stop, Event, bad_line, passed, whole_lines, ended_lines}
+use Rattle.ov_script.specs.Reading.{Gave, IsScript, HasNoStop, Early, Stop, Event, bad_line, passed, cut, whole_lines, CountsTo}
 use Rattle.ov_script.specs.declared.script.ReadStop.{ReadStop}
 use Rattle.ov_script.specs.declared.script.ReadStop.TheVariants as stop
 use Rattle.ov_report.specs.Summary.{report_text}
@@ -133,13 +133,13 @@ CountedRun taken good None = ⊤
 CountedRun taken good (Some report) = good ≡ length (whole_lines taken)
 
 -- How many lines were taken and found good, by the cause: all lines where the script was run, those before
--- a bad one, those that were ended where a read failed or the limit was passed, and none where nothing was
--- read.
+-- a bad one, those that were ended where a read failed, those that were ended before a limit was passed, and
+-- none where nothing was read.
 abbrev pub Counted : List ℕ → ℕ → Option Report → Cause → Type 0
 Counted taken good report cause.Fine = good ≡ length (whole_lines taken)
 Counted taken good report cause.WriteFault = good ≡ length (whole_lines taken)
 Counted taken good report cause.Memory = CountedRun taken good report
 Counted taken good report cause.Usage = good ≡ 0
 Counted taken good report (cause.BadLine n) = n ≡ good + 1
-Counted taken good report (cause.Limit l) = good ≡ length (ended_lines taken)
-Counted taken good report cause.ReadFault = good ≡ length (ended_lines taken)
+Counted taken good report (cause.Limit l) = CountsTo lanes_read taken l good
+Counted taken good report cause.ReadFault = good ≡ length (cut taken).ended
