@@ -1,6 +1,6 @@
 //! Two threads make commands at one table, each with a pass of its own.
 ghost use Rattle.std.specs.Prelude.{◌≡◌, ◌<◌, IfOk, OnErr};
-ghost use Rattle.ov_lane.specs.Passes.{IsPassOf, IsFree, CallDone, CallRefused};
+ghost use Rattle.ov_lane.specs.Passes.{IsPassOf, IsFree, CallDone, OnlySaw};
 ghost use Rattle.ov_clients.specs.Calls.{AreCalls};
 
 use ov_base::{ListOf, Memory};
@@ -21,7 +21,7 @@ fn call_once<R: Wait>(
     requires free { IsFree pass }
     requires lines { pass.lines < 18446744073709551615 }
     ensures ok { IfOk result.1 (λ r. CallDone pass result.0 0 command.now r) }
-    ensures err { OnErr result.1 (CallRefused pass result.0) }
+    ensures err { OnErr result.1 (OnlySaw pass result.0) }
 {
     let reply = ovpn.call(rt, &mut pass, 0, command);
     (pass, reply)
@@ -55,14 +55,14 @@ pub fn call_on_two_threads<R: Threads + Wait + Sync>(
             requires free { IsFree one }
             requires lines { one.lines < 18446744073709551615 }
             ensures ok { IfOk result.1 (λ r. CallDone one result.0 0 first.entry.now r) }
-            ensures err { OnErr result.1 (CallRefused one result.0) }
+            ensures err { OnErr result.1 (OnlySaw one result.0) }
         { call_once(rt, shared, one, first) },
         move || -> (Pass, Result<Reply, Memory>)
             requires of { IsPassOf shared.now two }
             requires free { IsFree two }
             requires lines { two.lines < 18446744073709551615 }
             ensures ok { IfOk result.1 (λ r. CallDone two result.0 0 second.entry.now r) }
-            ensures err { OnErr result.1 (CallRefused two result.0) }
+            ensures err { OnErr result.1 (OnlySaw two result.0) }
         { call_once(rt, shared, two, second) },
     );
     passes.push_reserved(one);

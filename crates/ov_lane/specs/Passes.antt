@@ -1,5 +1,5 @@
 -- The passes of a shared table: what contracts see of one, and what a call makes of it.
-use Rattle.std.specs.Prelude.{◌≡◌, ℕ, zero, suc, ◌+◌, ◌<◌, List, [], ◌∷◌, ◌++◌, Option, Some, length, map, filter, ◌==◌}
+use Rattle.std.specs.Prelude.{◌≡◌, ℕ, zero, suc, ◌+◌, ◌<◌, ◌≤◌, List, [], ◌∷◌, ◌++◌, Option, Some, length, map, filter, ◌==◌}
 use Rattle.std.specs.List.{AllByRecursion}
 use mathlib.Core.List.{IsPrefix}
 use mathlib.Core.Option.{some}
@@ -64,8 +64,9 @@ pub record CallDone (old new : Passing) (at : ℕ) (command : Command) (r : Repl
   pub called : IsCalled old.sight new.sight (record { lane = old.number; line = old.lines }) at command r
   pub same : new ≡ record old { lines = old.lines + 1; sight = new.sight }
 
--- There was no memory for it.
-pub record CallRefused (old new : Passing) : Type 0 where
+-- More may have been seen, and all else is as it was: after a call for which there was no memory, and where two passes
+-- met.
+pub record OnlySaw (old new : Passing) : Type 0 where
   pub seen : HasSeen old.sight new.sight
   pub same : new ≡ record old { sight = new.sight }
 
@@ -116,8 +117,11 @@ pub record LastReleases (journal : List Entry) : Type 0 where
   pub peers : PeersStayReleased journal
   pub keys : KeysStayReleased journal
 
--- A pass's own entries have its number, and their positions rise below the length of what it has seen.
+-- A pass's own entries have its number, and their positions rise below the length of what it has seen. It has two
+-- shares of the lock, and holds a cell at most once.
 pub record IsOrderly (p : Passing) : Type 0 where
+  pub share : p.sight.share ≡ 2
+  pub once : (c : ℕ) → count_of c p.sight.holds ≤ 1
   pub rise : RiseFrom 0 (positions p.sight.own)
   pub below : AllByRecursion (λ e. e.0 < length p.sight.seen) p.sight.own
   pub placed : AllByRecursion (λ e. e.1.place.lane ≡ p.number) p.sight.own

@@ -1,12 +1,13 @@
 //! Passes made from the seat of a lock, and taken in again.
-ghost use Rattle.std.specs.Prelude.{◌≡◌, ◌+◌, ◌*◌, ◌<◌, ◌≤◌, ◌++◌, [], length, map, Some, IfOk};
+ghost use Rattle.std.specs.Prelude.{◌≡◌, ℕ, ◌+◌, ◌*◌, ◌<◌, ◌≤◌, ◌++◌, [], length, map, Some, IfOk};
 ghost use Rattle.std.specs.List.{AllByRecursion};
 ghost use Rattle.std.specs.Vec.{vec_capacity};
 ghost use mathlib.Core.List.{IsPrefix};
-ghost use Rattle.ov_turn.specs.Seats.{IsSeatOf, share_of, seen_of, own_of, holds_of, owes_of, name_of};
+ghost use Rattle.ov_base.specs.Sums.{count_of};
+ghost use Rattle.ov_turn.specs.Seats.{IsSeatOf, share_of, seen_of, own_of, holds_of, owes_of, name_of, sight_of};
 ghost use Rattle.ov_model.specs.Own.{RiseFrom};
 ghost use Rattle.ov_lane.specs.Within.{HasRoom};
-ghost use Rattle.ov_lane.specs.Passes.{fresh, fresh_from, IsFree, IsOrderly};
+ghost use Rattle.ov_lane.specs.Passes.{HasSeen, fresh, fresh_from, IsFree, IsOrderly};
 ghost use Rattle.ov_lane.specs.Inner.{IsBlank, IsSpare, HasTaken};
 
 use crate::pass::Pass;
@@ -130,4 +131,26 @@ pub(crate) fn gather(
         whole = take_in(lock, whole, pass);
     }
     whole
+}
+
+/// Hands each seat what the other has seen, by a share that goes to and fro.
+pub(crate) fn show_both(
+    lock: &TicketLock<Table>,
+    one: LockSeat<Table>,
+    other: LockSeat<Table>,
+) -> (LockSeat<Table>, LockSeat<Table>)
+    requires of { IsSeatOf lock.now one × IsSeatOf lock.now other }
+    requires share { (share_of one ≡ 2) × (share_of other ≡ 2) }
+    requires once { (c : ℕ) → count_of c (holds_of one) ≤ 1 }
+    requires also { (c : ℕ) → count_of c (holds_of other) ≤ 1 }
+    ensures of { IsSeatOf lock.entry.now result.0 × IsSeatOf lock.entry.now result.1 }
+    ensures one { HasSeen (sight_of one) (sight_of result.0) }
+    ensures other { HasSeen (sight_of other) (sight_of result.1) }
+    ensures same { seen_of result.0 ≡ seen_of result.1 }
+{
+    let (one, token) = lock.split(one);
+    let other = lock.join(other, token);
+    let (other, token) = lock.split(other);
+    let one = lock.join(one, token);
+    (one, other)
 }

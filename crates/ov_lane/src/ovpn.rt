@@ -1,8 +1,8 @@
 //! The shared table: passes, their calls, and the end.
 ghost use Rattle.std.specs.Prelude.{◌≡◌, ◌<◌, ◌≤◌, IfOk, OnErr};
-ghost use Rattle.ov_lane.specs.Passes.{IsPassOf, IsFree, CallDone, CallRefused, AreAllPasses, OneHistory, LastReleases, fresh_from};
+ghost use Rattle.ov_lane.specs.Passes.{IsPassOf, IsFree, CallDone, OnlySaw, AreAllPasses, OneHistory, LastReleases, fresh_from};
 
-use crate::dealing::{deal, gather, rooms};
+use crate::dealing::{deal, gather, rooms, show_both};
 use crate::pass::Pass;
 use crate::ticket::serve_once;
 use ov_base::{ListOf, Memory};
@@ -87,7 +87,7 @@ impl Ovpn {
         requires free { IsFree pass.old }
         requires lines { pass.old.lines < 18446744073709551615 }
         ensures ok { IfOk result (λ r. CallDone pass.old pass.new at command.now r) }
-        ensures err { OnErr result (CallRefused pass.old pass.new) }
+        ensures err { OnErr result (OnlySaw pass.old pass.new) }
     {
         let Some(seat) = pass.seat.take() else {
             unreachable!()
@@ -101,5 +101,25 @@ impl Ovpn {
         let reply = served?;
         pass.lines += 1;
         Ok(reply)
+    }
+
+    /// Hands each pass what the other has seen: then both have seen the longer of the two histories. It waits for
+    /// nobody.
+    pub fn meet(&self, one: &mut Pass, other: &mut Pass)
+        requires one { IsPassOf self.now one.old }
+        requires other { IsPassOf self.now other.old }
+        ensures one { OnlySaw one.old one.new }
+        ensures other { OnlySaw other.old other.new }
+        ensures same { one.new.sight.seen ≡ other.new.sight.seen }
+    {
+        let Some(first) = one.seat.take() else {
+            unreachable!()
+        };
+        let Some(second) = other.seat.take() else {
+            unreachable!()
+        };
+        let (first, second) = show_both(&self.lock, first, second);
+        one.seat = Some(first);
+        other.seat = Some(second);
     }
 }
