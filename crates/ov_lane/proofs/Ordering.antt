@@ -61,7 +61,7 @@ orderly_called name name' number lines lines' line at old new command r is was =
     let front : length old.seen ≤ p = front_length old.seen is.before is.front in
     let own : List (ℕ × Entry) = old.own ++ from_position p made in
     let all : IsOrderly (record { name = name'; number = number; lines = lines'; sight = record new { own = own } }) = record {
-      share = is.share ∙ was.share;
+      share = (let two = was.share in let same = is.share in omega arith);
       once = λ c. let few = was.once c in let same = ap (count_of c) is.holds in omega arith;
       rise = rise_both 0 p old.own (from_position p made) was.rise (all_weaker (λ e. e.0 < length old.seen) (λ e. e.0 < p) (λ e below. let lt : e.0 < length old.seen = below in omega arith) old.own was.below) (omega arith) (from_rise p made);
       below = all_both (λ e. e.0 < length new.seen) old.own (from_position p made) (all_weaker (λ e. e.0 < length old.seen) (λ e. e.0 < length new.seen) (λ e below. let lt : e.0 < length old.seen = below in omega arith) old.own was.below) (from_below p (length new.seen) made (omega arith));

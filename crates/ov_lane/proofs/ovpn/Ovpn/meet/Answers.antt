@@ -1,4 +1,4 @@
-use Rattle.std.proofs.Common.{rules, ◌≡◌, ◌≤◌, ℕ, sym, subst}
+use Rattle.std.proofs.Common.{rules, ◌≡◌, ◌≤◌, ℕ, subst}
 use Rattle.ov_base.specs.Sums.{count_of}
 use Rattle.ov_turn.specs.Seats.{Sight, sight_of}
 use Rattle.ov_model.specs.declared.entry.Entry.{Entry}
@@ -19,8 +19,7 @@ show_both-first-requires-clause-also c =
 
 pub invariant_of-one : goal.invariant_of-one
 invariant_of-one c =
-    let here : sight_in c.one.inside.seat ≡ sight_of c.in-Some.first = search rules in
-    (
+    let here : sight_in c.one.inside.seat ≡ sight_of c.in-Some.first = search rules in (
       tt,
       c.one.invariant.1,
       orderly_seen _ _ c.one.inside.number c.one.inside.lines c.one.inside.lines _ _ c.show_both-first.ensures.one
@@ -29,8 +28,7 @@ invariant_of-one c =
 
 pub invariant_of-other : goal.invariant_of-other
 invariant_of-other c =
-    let here : sight_in c.other.inside.seat ≡ sight_of c.in-Some-take.second = search rules in
-    (
+    let here : sight_in c.other.inside.seat ≡ sight_of c.in-Some-take.second = search rules in (
       tt,
       c.other.invariant.1,
       orderly_seen _ _ c.other.inside.number c.other.inside.lines c.other.inside.lines _ _ c.show_both-first.ensures.other
