@@ -29,6 +29,7 @@ AreOctets count bytes = (length bytes ≡ count) × IsBytes bytes
 abbrev pub IsShort : Option (List ℕ) → Type 0
 IsShort found = IfSome found (λ bytes. (length bytes ≤ most_key_bytes) × IsBytes bytes)
 
+-- A peer with no attributes but those of these names, each in its range.
 pub record IsListedPeer (names : List (List ℕ)) (p : NlPeer) : Type 0 where
   pub only : IsTrue (has_only names (peer_data p))
   pub id : IsSmall p.id
@@ -46,10 +47,12 @@ pub record IsListedPeer (names : List (List ℕ)) (p : NlPeer) : Type 0 where
   pub keepalive_interval : IsSmall p.keepalive_interval
   pub keepalive_timeout : IsSmall p.keepalive_timeout
 
+-- A direction of a key with at most as many bytes as a line may give.
 pub record IsListedDir (d : NlKeyDir) : Type 0 where
   pub cipher_key : IsShort d.cipher_key
   pub nonce_tail : IsShort d.nonce_tail
 
+-- A key with no attributes but those of these names, each in its range.
 pub record IsListedConf (names : List (List ℕ)) (k : NlKeyConf) : Type 0 where
   pub only : IsTrue (has_only names (conf_data k))
   pub peer_id : IsSmall k.peer_id
@@ -57,6 +60,7 @@ pub record IsListedConf (names : List (List ℕ)) (k : NlKeyConf) : Type 0 where
   pub encrypt : IfSome k.encrypt IsListedDir
   pub decrypt : IfSome k.decrypt IsListedDir
 
+-- An operation whose device, peer and key are what lines give.
 pub record IsListedMessage (m : NlMessage) : Type 0 where
   pub ifindex : IsSmall m.ifindex
   pub peer : IfSome m.peer (IsListedPeer (peer_names m.op))
@@ -79,6 +83,7 @@ abbrev pub HasListedNames : Line → Deed → Type 0
 HasListedNames line (deed.Netlink m) = IsTrue (has_only (message_names m.op) (line_data line))
 HasListedNames line _ = ⊤
 
+-- A line whose names that have a value are those of its word, with values in their ranges.
 pub record IsListed (lanes : ℕ) (line : Line) : Type 0 where
   pub only : HasListedNames line line.deed
   pub at : line.at ≤ most_number

@@ -147,6 +147,7 @@ pub record EarlyAt (lanes : ℕ) (bytes front : List ℕ) (event : Event) : Type
   pub given : Gives lanes front byte event
   pub first : (other : Event) → rank other < rank event → ¬ (Gives lanes front byte other)
 
+-- An event is the first one that these bytes show.
 abbrev pub Early : List ℕ → ℕ → Event → Type 0
 Early bytes lanes event = (front : List ℕ) × EarlyAt lanes bytes front event
 
@@ -162,6 +163,7 @@ pub record LastAt (lanes : ℕ) (bytes : List ℕ) (event : Event) : Type 0 wher
 abbrev pub StopAt : ℕ → List ℕ → List ℕ → Event → Type 0
 StopAt lanes bytes front event = EarlyAt lanes bytes front event ⊎ ((front ≡ bytes) × LastAt lanes bytes event)
 
+-- An event is the first one of the whole stream.
 abbrev pub Stop : List ℕ → ℕ → Event → Type 0
 Stop bytes lanes event = (front : List ℕ) × StopAt lanes bytes front event
 
