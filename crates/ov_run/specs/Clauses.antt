@@ -9,6 +9,7 @@ use Rattle.ov_model.specs.declared.line.Script.{Script}
 use Rattle.ov_model.specs.declared.report.Report.{Report}
 use Rattle.ov_model.specs.declared.report.LaneLog.{LaneLog}
 use Rattle.ov_model.specs.Legal.{Legal}
+use Rattle.ov_model.specs.Via.{via_of}
 use Rattle.ov_core.specs.Sessions.{Serial, Scheduled}
 use Rattle.ov_plan.specs.declared.words.Mode.{Mode}
 use Rattle.ov_plan.specs.declared.words.Mode.TheVariants.{Trace, Steps}
@@ -55,11 +56,11 @@ IsStop cause.Memory = ⊥
 
 -- The report of a mode.
 abbrev pub RunsIn : Mode → ℕ → List ℕ → Script → Report → Type 0
-RunsIn Trace first schedule script report = Serial (λ a. a) script first report
-RunsIn Steps first schedule script report = Scheduled (λ a. a) script first schedule report
+RunsIn Trace first schedule script report = Serial (via_of script.routes) script first report
+RunsIn Steps first schedule script report = Scheduled (via_of script.routes) script first schedule report
 
 -- The report is that of the plan's mode: each line to its end in the script's order, or by the plan's
--- schedule. The first packet id of every key is the plan's, and no line gives a route.
+-- schedule. The first packet id of every key is the plan's, and the routes are the script's.
 abbrev pub Runs : RunPlan → Script → Report → Type 0
 Runs plan script report = RunsIn plan.mode plan.first_id plan.schedule script report
 
