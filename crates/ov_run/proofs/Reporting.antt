@@ -1,6 +1,6 @@
 -- What is known of a run's report, and of the lines that were counted.
-use Rattle.std.proofs.Common.{ℕ, suc, ◌≡◌, List, map, slice_get, [], ◌∷◌, ◌++◌, append-nil, subst, length, refl, sym, ap, ◌∙◌, arith}
-use Rattle.std.specs.Prelude.{Option, Some, None, Err, IfSome}
+use Rattle.std.proofs.Common.{ℕ, suc, ◌≡◌, List, map, slice_get, [], ◌∷◌, ◌++◌, append-nil, subst, length, refl, sym, ap, ◌∙◌, arith, inl, inr}
+use Rattle.std.specs.Prelude.{Option, Some, None, Result, Err, IfSome}
 use Rattle.std.specs.List.{AllByRecursion}
 use Rattle.std.specs.Io.KnownBytes.{IsAtEnd}
 use Rattle.ov_model.specs.declared.line.Line.{Line}
@@ -9,12 +9,13 @@ use Rattle.ov_model.specs.declared.report.Report.{Report}
 use Rattle.ov_model.specs.declared.report.LaneLog.{LaneLog}
 use Rattle.ov_model.specs.Legal.{Legal}
 use Rattle.ov_core.specs.Sessions.{Lane, log_of}
-use Rattle.ov_script.specs.Reading.{AreLines, Gave, GaveSome, IsScript, HasNoStop, Counts, whole_lines}
+use Rattle.ov_script.specs.Reading as reading
+use Rattle.ov_script.specs.Reading.{AreLines, Gave, GaveSome, IsScript, HasNoStop, Counts, whole_lines, Event, bad_line, passed, stop_of}
 use Rattle.ov_plan.specs.declared.words.Mode.{Mode}
 use Rattle.ov_plan.specs.declared.words.Mode.TheVariants.{Trace, Steps}
 use Rattle.ov_plan.specs.declared.words.RunPlan.{RunPlan}
 use Rattle.ov_plan.specs.Plan.{IsPlan}
-use Rattle.ov_run.specs.Clauses.{Answered, Read, Reported, Runs, RunsIn, EndsBy, Counted, CountedRun, cause_of_stop, lanes_read}
+use Rattle.ov_run.specs.Clauses.{Answered, Read, Reported, Runs, RunsIn, EndsBy, Counted, CountedRun, cause_of, cause_of_stop, IsTold, lanes_read}
 use Rattle.ov_script.specs.declared.script.ReadStop.{ReadStop}
 use Rattle.ov_script.specs.declared.script.ReadStop.TheVariants as stop
 use Rattle.ov_run.specs.declared.ended.Cause.{Cause}
@@ -85,6 +86,29 @@ stop_counted taken good stop.Read is = is
 stop_counted taken good (stop.Bad n) is = is
 stop_counted taken good (stop.Limit l) is = is
 stop_counted taken good stop.Memory is = tt
+
+-- A cause that names an event is that of the stop that names it.
+pub stop_named : (s : ReadStop) (event : Event) → cause_of_stop s ≡ cause_of event → s ≡ stop_of event
+stop_named stop.Read (bad_line n) is = absurd (cc is)
+stop_named stop.Read (passed l) is = absurd (cc is)
+stop_named (stop.Bad n) (bad_line m) is = let same : n ≡ m = cc in ap stop.Bad same
+stop_named (stop.Bad n) (passed l) is = absurd (cc is)
+stop_named (stop.Limit l) (bad_line n) is = absurd (cc is)
+stop_named (stop.Limit l) (passed m) is = let same : l ≡ m = cc in ap stop.Limit same
+stop_named stop.Memory (bad_line n) is = absurd (cc is)
+stop_named stop.Memory (passed l) is = absurd (cc is)
+
+event_cause : (event : Event) → cause_of_stop (stop_of event) ≡ cause_of event
+event_cause (bad_line n) = refl
+event_cause (passed l) = refl
+
+err_same : (s t : ReadStop) → ◌≡◌ {A = Result Script ReadStop} (Err s) (Err t) → s ≡ t
+err_same s t is = cc
+
+-- What a stop tells, its cause tells.
+pub cause_told : (s : ReadStop) (event : Event) → reading.IsTold event (Err s) → IsTold event (cause_of_stop s)
+cause_told s event (inl own) = inl (ap cause_of_stop (err_same s (stop_of event) own) ∙ event_cause event)
+cause_told s event (inr memory) = inr (ap cause_of_stop (err_same s stop.Memory memory))
 
 -- A cause of a read fault is that of a failed read.
 pub was_read : (s : ReadStop) → cause_of_stop s ≡ cause.ReadFault → s ≡ stop.Read

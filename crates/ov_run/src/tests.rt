@@ -9,7 +9,7 @@ ghost use Rattle.ov_run.specs.Clauses.{Read};
 
 use crate::ended::{Cause, Ended};
 use crate::run::run_serial;
-use crate::told::{say, tell};
+use crate::told::{say, tell, tell_why};
 use ov_base::{ListOf, Memory, MemorySink, MemorySource, Octets, Sink};
 use ov_plan::About;
 use ov_script::Limit;
@@ -198,7 +198,7 @@ fn a_text_in_memory_has_a_report_of_its_script(rt: HostRuntime) -> Result<(), Fa
 
 #[test]
 fn each_cause_is_told_in_its_words(rt: HostRuntime) -> Result<(), Fail> {
-    let table: [(Cause, &str); 8] = [
+    let table: [(Cause, &str); 11] = [
         (Cause::Fine, ""),
         (Cause::Usage, "ovpn: usage: ovpn MODE [options]\n"),
         (Cause::BadLine(1), "ovpn: line 1 is not in the grammar\n"),
@@ -206,7 +206,10 @@ fn each_cause_is_told_in_its_words(rt: HostRuntime) -> Result<(), Fail> {
             Cause::BadLine(18_446_744_073_709_551_615),
             "ovpn: line 18446744073709551615 is not in the grammar\n",
         ),
+        (Cause::Limit(Limit::LineBytes), "ovpn: limit line-bytes\n"),
+        (Cause::Limit(Limit::Lines), "ovpn: limit lines\n"),
         (Cause::Limit(Limit::Bytes), "ovpn: limit bytes\n"),
+        (Cause::Limit(Limit::Wide), "ovpn: limit wide\n"),
         (Cause::ReadFault, "ovpn: read fault\n"),
         (Cause::WriteFault, "ovpn: write fault\n"),
         (Cause::Memory, "ovpn: want of memory\n"),
@@ -216,5 +219,44 @@ fn each_cause_is_told_in_its_words(rt: HostRuntime) -> Result<(), Fail> {
         assert_eq!(rt; tell(cause, &mut sink), Ok(()));
         assert_eq!(rt; sink.written(), text.as_bytes());
     }
+    Ok(())
+}
+
+#[test]
+fn a_bad_line_is_told_with_why_it_is(rt: HostRuntime) -> Result<(), Fail> {
+    let text = br#"{"at":0,"do":"peer-get","lane":0,"peer":{"id":5},"ports":1}"#;
+    let (ended, written) = ran(rt.alloc(), &["trace"], text, &[], &[])?;
+    assert_eq!(rt; ended.cause, Cause::BadLine(1));
+    assert!(rt; written.is_empty());
+    let mut sink = MemorySink::new(rt.alloc(), 16, ListOf::new(rt.alloc()));
+    assert_eq!(rt; tell(ended.cause, &mut sink), Ok(()));
+    assert_eq!(rt; tell_why(rt.alloc(), &ended, &mut sink), Ok(()));
+    assert_eq!(rt;
+        sink.written(),
+        b"ovpn: line 1 is not in the grammar\novpn: line 1 is bad: unknown name ports\n".as_slice()
+    );
+    // Where it can't be written the status is the same.
+    let mut broken = MemorySink::new(rt.alloc(), 16, calls(rt.alloc(), &[0])?);
+    assert!(rt; tell_why(rt.alloc(), &ended, &mut broken).is_err());
+    assert_eq!(rt; ended.status(), 2);
+    Ok(())
+}
+
+#[test]
+fn a_script_past_a_limit_runs_nothing(rt: HostRuntime) -> Result<(), Fail> {
+    // A line of 262,145 bytes, behind a good one.
+    let mut text = Vec::from_slice(rt.alloc(), PEER5.as_bytes())?;
+    for _ in 0..262_145 {
+        text.push(b' ')?;
+    }
+    let (ended, written) = ran(rt.alloc(), &["trace"], text.as_slice(), &[], &[])?;
+    assert_eq!(rt; ended.cause, Cause::Limit(Limit::LineBytes));
+    assert_eq!(rt; ended.status(), 3);
+    assert_eq!(rt; ended.read_lines, 1);
+    assert!(rt; ended.report.is_none());
+    assert!(rt; written.is_empty());
+    let mut sink = MemorySink::new(rt.alloc(), 16, ListOf::new(rt.alloc()));
+    assert_eq!(rt; tell_why(rt.alloc(), &ended, &mut sink), Ok(()));
+    assert!(rt; sink.written().is_empty());
     Ok(())
 }

@@ -137,8 +137,8 @@ Gives lanes bytes byte event = (byte ≡ 10) × Ends lanes bytes event
 abbrev pub IsQuiet : ℕ → List ℕ → Type 0
 IsQuiet lanes bytes = (front : List ℕ) (byte : ℕ) (behind : List ℕ) → bytes ≡ front ++ byte ∷ behind → (event : Event) → ¬ (Gives lanes front byte event)
 
--- The first event that the bytes of a stream show while it may still go on: it comes with the byte behind
--- `front`, before which no byte gives one, and comes first of those that this byte gives.
+-- An event that the byte behind `front` gives: no byte before it gives one, and of those that it gives this
+-- comes first.
 pub record EarlyAt (lanes : ℕ) (bytes front : List ℕ) (event : Event) : Type 0 where
   pub byte : ℕ
   pub behind : List ℕ
@@ -147,23 +147,23 @@ pub record EarlyAt (lanes : ℕ) (bytes front : List ℕ) (event : Event) : Type
   pub given : Gives lanes front byte event
   pub first : (other : Event) → rank other < rank event → ¬ (Gives lanes front byte other)
 
--- An event is the first one that these bytes show.
+-- The first event that the bytes of a stream show while it may still go on.
 abbrev pub Early : List ℕ → ℕ → Event → Type 0
 Early bytes lanes event = (front : List ℕ) × EarlyAt lanes bytes front event
 
--- The event that the end of a stream gives: its last piece without an end is a line too.
+-- An event that the end of a stream gives, of which no byte gives one: its last piece without an end is a
+-- line too.
 pub record LastAt (lanes : ℕ) (bytes : List ℕ) (event : Event) : Type 0 where
   pub quiet : IsQuiet lanes bytes
   pub piece : 0 < length (cut bytes).rest
   pub given : Ends lanes bytes event
   pub first : (other : Event) → rank other < rank event → ¬ (Ends lanes bytes other)
 
--- The first event of a whole stream, and the bytes in front of the one that it comes with, or all bytes
--- where it comes with the stream's end.
+-- The first event of a whole stream behind its front: it comes with the byte behind, or with the stream's end.
 abbrev pub StopAt : ℕ → List ℕ → List ℕ → Event → Type 0
 StopAt lanes bytes front event = EarlyAt lanes bytes front event ⊎ ((front ≡ bytes) × LastAt lanes bytes event)
 
--- An event is the first one of the whole stream.
+-- The first event of a whole stream.
 abbrev pub Stop : List ℕ → ℕ → Event → Type 0
 Stop bytes lanes event = (front : List ℕ) × StopAt lanes bytes front event
 

@@ -2,6 +2,8 @@
 #![tactic(auto)]
 
 pub mod good;
+#[cfg(test)]
+mod limit_tests;
 pub mod pieces;
 #[cfg(test)]
 mod reading_tests;

@@ -3,7 +3,7 @@ use Rattle.std.proofs.Common.{[], sym, ◌∙◌}
 use Rattle.std.proofs.KnownBytes.{Consumes-nil}
 use Rattle.ov_script.proofs.Judging.{early_stops, gave_some, none_given}
 use Rattle.ov_run.specs.Clauses.{lanes_read}
-use Rattle.ov_run.proofs.Reporting.{reported, all_counted, stop_counted, was_read}
+use Rattle.ov_run.proofs.Reporting.{reported, all_counted, stop_counted, stop_named, cause_told, was_read}
 use Rattle.ov_run.proofs.run.run_serial.Goals as goal
 
 pub returns-in-Err-Usage-clause-taken : goal.returns-in-Err-Usage-clause-taken
@@ -17,6 +17,29 @@ returns-in-Err-Usage-clause-told g c = λ calm event taken gave first. absurd (n
 
 pub returns-in-Err-Memory-clause-taken : goal.returns-in-Err-Memory-clause-taken
 returns-in-Err-Memory-clause-taken g c = gave_some _ _ [] (Consumes-nil (g.S.Source.left c.args.source.now))
+
+pub returns-in-Err-clause-stops : goal.returns-in-Err-clause-stops
+returns-in-Err-clause-stops g c = λ event is. (rw c.in-Err.is at c.read_script-good.ensures.stops) event (stop_named c.in-Err.stop event (sym c.cause_of.ensures ∙ is))
+
+pub returns-in-Err-clause-early : goal.returns-in-Err-clause-early
+returns-in-Err-clause-early g c =
+    let told = rw c.in-Err.is at c.read_script-good.ensures.told_early in
+    λ event taken gave early. rw c.cause_of.ensures (cause_told c.in-Err.stop event (told event taken gave early))
+
+pub returns-in-Err-clause-told : goal.returns-in-Err-clause-told
+returns-in-Err-clause-told g c =
+    let told = rw c.in-Err.is at c.read_script-good.ensures.told_stop in
+    λ calm event taken gave first. rw c.cause_of.ensures (cause_told c.in-Err.stop event (told calm event taken gave first))
+
+pub returns-in-Ok-outcome-clause-early : goal.returns-in-Ok-outcome-clause-early
+returns-in-Ok-outcome-clause-early g c =
+    let none = rw c.in-Ok-outcome.is at c.read_script-good.ensures.no_stop in
+    λ event taken gave early. absurd (none taken gave event (early_stops lanes_read taken event early))
+
+pub returns-in-Ok-outcome-clause-told : goal.returns-in-Ok-outcome-clause-told
+returns-in-Ok-outcome-clause-told g c =
+    let none = rw c.in-Ok-outcome.is at c.read_script-good.ensures.no_stop in
+    λ calm event taken gave first. absurd (none taken gave event first)
 
 pub returns-in-Err-clause-not_early : goal.returns-in-Err-clause-not_early
 returns-in-Err-clause-not_early g c =
