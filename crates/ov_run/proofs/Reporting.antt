@@ -1,6 +1,6 @@
 -- What is known of a run's report, and of the lines that were counted.
-use Rattle.std.proofs.Common.{ℕ, suc, ◌≡◌, List, map, slice_get, [], ◌∷◌, ◌++◌, append-nil, subst, length, refl, sym, ap, ◌∙◌, arith}
-use Rattle.std.specs.Prelude.{Option, Some, None, Err, IfSome}
+use Rattle.std.proofs.Common.{ℕ, suc, ◌≡◌, List, map, slice_get, [], ◌∷◌, ◌++◌, append-nil, subst, length, refl, sym, ap, ◌∙◌, arith, inl, inr}
+use Rattle.std.specs.Prelude.{Option, Result, Some, None, Ok, Err, IfSome}
 use Rattle.std.specs.List.{AllByRecursion}
 use Rattle.std.specs.Io.KnownBytes.{IsAtEnd}
 use Rattle.ov_model.specs.declared.line.Line.{Line}
@@ -9,12 +9,13 @@ use Rattle.ov_model.specs.declared.report.Report.{Report}
 use Rattle.ov_model.specs.declared.report.LaneLog.{LaneLog}
 use Rattle.ov_model.specs.Legal.{Legal}
 use Rattle.ov_core.specs.Sessions.{Lane, log_of}
-use Rattle.ov_script.specs.Reading.{AreLines, Gave, GaveSome, IsScript, HasNoStop, Counts, whole_lines}
+use Rattle.ov_script.specs.Reading.{AreLines, Event, Gave, GaveSome, IsScript, HasNoStop, Counts, bad_line, passed, stop_of, whole_lines}
+use Rattle.ov_script.specs.Reading as reading
 use Rattle.ov_plan.specs.declared.words.Mode.{Mode}
 use Rattle.ov_plan.specs.declared.words.Mode.TheVariants.{Trace, Steps}
 use Rattle.ov_plan.specs.declared.words.RunPlan.{RunPlan}
 use Rattle.ov_plan.specs.Plan.{IsPlan}
-use Rattle.ov_run.specs.Clauses.{Answered, Read, Reported, Runs, RunsIn, EndsBy, Counted, CountedRun, cause_of_stop, lanes_read}
+use Rattle.ov_run.specs.Clauses.{Answered, IsTold, Read, Reported, Runs, RunsIn, EndsBy, Counted, CountedRun, cause_of, cause_of_stop, lanes_read}
 use Rattle.ov_script.specs.declared.script.ReadStop.{ReadStop}
 use Rattle.ov_script.specs.declared.script.ReadStop.TheVariants as stop
 use Rattle.ov_run.specs.declared.ended.Cause.{Cause}
@@ -85,6 +86,33 @@ stop_counted taken good stop.Read is = is
 stop_counted taken good (stop.Bad n) is = is
 stop_counted taken good (stop.Limit l) is = is
 stop_counted taken good stop.Memory is = tt
+
+-- A cause of an event is that of the stop for it, and a told event is told as its cause.
+pub event_of : (s : ReadStop) (event : Event) → cause_of_stop s ≡ cause_of event → s ≡ stop_of event
+event_of stop.Read (bad_line n) is = cc
+event_of stop.Read (passed limit) is = cc
+event_of (stop.Bad m) (bad_line n) is = cc
+event_of (stop.Bad m) (passed limit) is = cc
+event_of (stop.Limit l) (bad_line n) is = cc
+event_of (stop.Limit l) (passed limit) is = cc
+event_of stop.Memory (bad_line n) is = cc
+event_of stop.Memory (passed limit) is = cc
+
+its_cause : (event : Event) → cause_of_stop (stop_of event) ≡ cause_of event
+its_cause (bad_line n) = refl
+its_cause (passed limit) = refl
+
+same_stop : (s t : ReadStop) → ◌≡◌ {A = Result Script ReadStop} (Err s) (Err t) → s ≡ t
+same_stop s t is = cc
+
+pub told_of : (event : Event) (s : ReadStop) → reading.IsTold event (Err s) → IsTold event (cause_of_stop s)
+told_of event s (inl is) = inl (ap cause_of_stop (same_stop s (stop_of event) is) ∙ its_cause event)
+told_of event s (inr is) = inr (ap cause_of_stop (same_stop s stop.Memory is))
+
+-- A script that was read whole tells no event.
+pub told_none : (event : Event) (script : Script) → reading.IsTold event (Ok script) → ⊥
+told_none event script (inl is) = cc
+told_none event script (inr is) = cc
 
 -- A cause of a read fault is that of a failed read.
 pub was_read : (s : ReadStop) → cause_of_stop s ≡ cause.ReadFault → s ≡ stop.Read

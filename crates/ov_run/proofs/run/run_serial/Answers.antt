@@ -3,7 +3,7 @@ use Rattle.std.proofs.Common.{[], sym, ◌∙◌}
 use Rattle.std.proofs.KnownBytes.{Consumes-nil}
 use Rattle.ov_script.proofs.Judging.{early_stops, gave_some, none_given}
 use Rattle.ov_run.specs.Clauses.{lanes_read}
-use Rattle.ov_run.proofs.Reporting.{reported, all_counted, stop_counted, was_read}
+use Rattle.ov_run.proofs.Reporting.{event_of, told_of, told_none, reported, all_counted, stop_counted, was_read}
 use Rattle.ov_run.proofs.run.run_serial.Goals as goal
 
 pub returns-in-Err-Usage-clause-taken : goal.returns-in-Err-Usage-clause-taken
@@ -17,6 +17,21 @@ returns-in-Err-Usage-clause-told g c = λ calm event taken gave first. absurd (n
 
 pub returns-in-Err-Memory-clause-taken : goal.returns-in-Err-Memory-clause-taken
 returns-in-Err-Memory-clause-taken g c = gave_some _ _ [] (Consumes-nil (g.S.Source.left c.args.source.now))
+
+pub returns-in-Err-clause-stops : goal.returns-in-Err-clause-stops
+returns-in-Err-clause-stops g c = λ event is. (rw c.in-Err.is at c.read_script-good.ensures.stops) event (event_of c.in-Err.stop event (sym c.cause_of.ensures ∙ is))
+
+pub returns-in-Err-clause-early : goal.returns-in-Err-clause-early
+returns-in-Err-clause-early g c = λ event taken gave early. rw c.cause_of.ensures (told_of event c.in-Err.stop ((rw c.in-Err.is at c.read_script-good.ensures.told_early) event taken gave early))
+
+pub returns-in-Err-clause-told : goal.returns-in-Err-clause-told
+returns-in-Err-clause-told g c = λ calm event taken gave first. rw c.cause_of.ensures (told_of event c.in-Err.stop ((rw c.in-Err.is at c.read_script-good.ensures.told_stop) calm event taken gave first))
+
+pub returns-in-Ok-outcome-clause-early : goal.returns-in-Ok-outcome-clause-early
+returns-in-Ok-outcome-clause-early g c = λ event taken gave early. absurd (told_none event c.in-Ok-outcome.script ((rw c.in-Ok-outcome.is at c.read_script-good.ensures.told_early) event taken gave early))
+
+pub returns-in-Ok-outcome-clause-told : goal.returns-in-Ok-outcome-clause-told
+returns-in-Ok-outcome-clause-told g c = λ calm event taken gave first. absurd (told_none event c.in-Ok-outcome.script ((rw c.in-Ok-outcome.is at c.read_script-good.ensures.told_stop) calm event taken gave first))
 
 pub returns-in-Err-clause-not_early : goal.returns-in-Err-clause-not_early
 returns-in-Err-clause-not_early g c =
