@@ -7,3 +7,5 @@ pub mod Ids
 pub mod Orders
 -- Which of two that give a hold back was the last.
 pub mod Lasts
+-- Two passes of one table before and after a call each.
+pub mod Passes

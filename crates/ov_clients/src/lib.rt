@@ -2,6 +2,7 @@
 #![tactic(auto)]
 
 pub mod appending;
+pub mod calling;
 pub mod drawing;
 pub mod holding;
 pub mod journal;

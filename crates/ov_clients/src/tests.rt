@@ -1,6 +1,9 @@
 use crate::appending::append_on_two_threads;
+use crate::calling::call_on_two_threads;
 use crate::drawing::draw_on_two_threads;
 use crate::holding::hold_on_two_threads;
+use ov_base::{Addr, Transport};
+use ov_model::{Attrs, Command, Errno, PeerId, Reply};
 use std::test::Fail;
 
 // Threads meet differently in each run, so each test makes its run this many times.
@@ -55,6 +58,36 @@ fn exactly_one_of_two_threads_is_told_that_it_was_the_last(rt: HostRuntime) -> R
         let told = hold_on_two_threads(&rt, rt.alloc())?;
         let (one, two) = told.ok_or("the thing came to its end")?;
         assert!(rt; one != two);
+    }
+    Ok(())
+}
+
+// Peer 5, at one transport and one address inside the tunnel.
+fn peer_5() -> Option<Command> {
+    Some(Command::PeerNew(Attrs {
+        id: PeerId::new(5)?,
+        remote: Some(Transport {
+            addr: Addr::V4([192, 0, 2, 5]),
+            port: 1194,
+        }),
+        vpn4: Some([10, 8, 0, 5]),
+        vpn6: None,
+        keepalive: None,
+    }))
+}
+
+#[test]
+fn one_of_two_threads_makes_the_peer_and_the_other_finds_it_there(
+    rt: HostRuntime,
+) -> Result<(), Fail> {
+    for _run in 0..RUNS {
+        let command = peer_5().ok_or("an id in range")?;
+        let (closed, one, two) = call_on_two_threads(&rt, rt.alloc(), &command, &command)?;
+        let made = Reply::Made(0);
+        let refused = Reply::Refused(Errno::Exists);
+        assert!(rt; (one == made && two == refused) || (one == refused && two == made));
+        assert_eq!(rt; closed.journal.len(), 2);
+        assert_eq!(rt; closed.notes.len(), 0);
     }
     Ok(())
 }

@@ -10,3 +10,6 @@ mod places;
 pub use gone::{Gone, Numbered};
 pub use index::Index;
 pub use ov_peer::Peer;
+
+#[cfg(test)]
+mod tests;

@@ -13,8 +13,8 @@ use Rattle.ov_turn.specs.declared.kept.Kept.{Ghosts}
 use Rattle.ov_turn.specs.declared.lock.LockSeat.{LockSeat}
 use Rattle.ov_turn.specs.declared.lock.TicketLock.{TicketLock}
 use Rattle.ov_turn.specs.Lists.{has, AreOf, IsWhole}
-use Rattle.ov_turn.specs.Seats.{Name, IsSeatOf, share_of, seen_of, own_of, holds_of, owes_of}
-use Rattle.ov_turn.proofs.Fronts.{prefix_more}
+use Rattle.ov_turn.specs.Seats.{Name, IsSeatOf, share_of, seen_of, own_of, holds_of, owes_of, sight_of}
+use Rattle.ov_turn.proofs.Fronts.{prefix_self, prefix_more}
 use Rattle.ov_turn.proofs.Members.{has_le}
 use Rattle.ov_model.specs.declared.entry.Entry.{Entry}
 use Rattle.ov_model.specs.declared.note.Note.{Note}
@@ -25,7 +25,7 @@ use Rattle.ov_model.proofs.Picked.{picked_whole, elem_within}
 use Rattle.ov_model.proofs.Freed.{all_released}
 use Rattle.ov_model.proofs.LifetimeLaw.{peers_stay_released, keys_stay_released}
 use Rattle.ov_table.specs.Cells.{cells, dying_cells}
-use Rattle.ov_lane.specs.Passes.{Passing, Shared, fresh, fresh_from, IsPassOf, IsFree, IsOrderly, AreAllPasses, IsPart, OneHistory, LastReleases}
+use Rattle.ov_lane.specs.Passes.{Passing, Shared, fresh, fresh_from, IsPassOf, IsFree, IsOrderly, AreFresh, AreAllPasses, IsPart, OneHistory, LastReleases}
 use Rattle.ov_lane.specs.Inner.{HasTaken}
 use Rattle.ov_lane.proofs.Stepping.{none_has}
 use Rattle.ov_lane.proofs.Ordering.{all_weaker, all_both}
@@ -36,41 +36,41 @@ pub length_fresh : (name : Name) (a n : ℕ) → length (fresh_from name a n) �
 length_fresh name a zero = refl
 length_fresh name a (suc n) = ap suc (length_fresh name (suc a) n)
 
-pub fresh_more : (name : Name) (a n : ℕ) → fresh_from name a (suc n) ≡ fresh_from name a n ++ fresh name (a + n) ∷ []
-fresh_more name a zero = ap (λ k. fresh name k ∷ []) (let e : a ≡ a + 0 = omega arith in e)
-fresh_more name a (suc n) = ap (λ l. fresh name a ∷ l) (fresh_more name (suc a) n ∙ ap (λ k. fresh_from name (suc a) n ++ fresh name k ∷ []) (let e : suc a + n ≡ a + suc n = omega arith in e))
+pub fresh_more : (name : Name) (a n : ℕ) → fresh_from name a (suc n) ≡ fresh_from name a n ++ fresh name (a + n) 2 ∷ []
+fresh_more name a zero = ap (λ k. fresh name k 2 ∷ []) (let e : a ≡ a + 0 = omega arith in e)
+fresh_more name a (suc n) = ap (λ l. fresh name a 2 ∷ l) (fresh_more name (suc a) n ∙ ap (λ k. fresh_from name (suc a) n ++ fresh name k 2 ∷ []) (let e : suc a + n ≡ a + suc n = omega arith in e))
 
-fresh_rise : (name : Name) (b a n : ℕ) → b ≤ a → RiseFrom b (map (λ p. p.number) (fresh_from name a n))
-fresh_rise name b a zero least = tt
-fresh_rise name b a (suc n) least = (least, fresh_rise name (suc a) (suc a) n (omega arith))
+fresh_rise : (name : Name) (b a n part : ℕ) → b ≤ a → RiseFrom b (map (λ p. p.number) (fresh_from name a n ++ fresh name (a + n) part ∷ []))
+fresh_rise name b a zero part least = (omega arith, tt)
+fresh_rise name b a (suc n) part least = (least, subst (λ k. RiseFrom (suc a) (map (λ p. p.number) (fresh_from name (suc a) n ++ fresh name k part ∷ []))) (let e : suc a + n ≡ a + suc n = omega arith in e) (fresh_rise name (suc a) (suc a) n part (omega arith)))
 
-fresh_shares : (name : Name) (a n : ℕ) → total (λ p. p.sight.share) (fresh_from name a n) ≡ 2 * n
-fresh_shares name a zero = refl
-fresh_shares name a (suc n) = omega (arith, fresh_shares name (suc a) n)
+fresh_shares : (name : Name) (a n last part : ℕ) → total (λ p. p.sight.share) (fresh_from name a n ++ fresh name last part ∷ []) ≡ part + 2 * n
+fresh_shares name a zero last part = omega arith
+fresh_shares name a (suc n) last part = omega (arith, fresh_shares name (suc a) n last part)
 
-fresh_of : (o : Shared) (a n : ℕ) → AllByRecursion (IsPassOf o) (fresh_from o.name a n)
-fresh_of o a zero = tt
-fresh_of o a (suc n) = (refl, fresh_of o (suc a) n)
+fresh_of : (o : Shared) (a n last part : ℕ) → AllByRecursion (IsPassOf o) (fresh_from o.name a n ++ fresh o.name last part ∷ [])
+fresh_of o a zero last part = (refl, tt)
+fresh_of o a (suc n) last part = (refl, fresh_of o (suc a) n last part)
 
-fresh_free : (name : Name) (a n : ℕ) → AllByRecursion IsFree (fresh_from name a n)
-fresh_free name a zero = tt
-fresh_free name a (suc n) = (record { holds = refl; owes = refl }, fresh_free name (suc a) n)
+fresh_free : (name : Name) (a n last part : ℕ) → AllByRecursion IsFree (fresh_from name a n ++ fresh name last part ∷ [])
+fresh_free name a zero last part = (record { holds = refl; owes = refl }, tt)
+fresh_free name a (suc n) last part = (record { holds = refl; owes = refl }, fresh_free name (suc a) n last part)
 
-pub all_fresh : (o : Shared) (n : ℕ) (passes : List Passing) → passes ≡ fresh_from o.name 0 n → o.left + 2 * n ≡ 4294967296 → AreAllPasses o passes
-all_fresh o n passes are whole = subst (AreAllPasses o) (sym are) record {
-  of = fresh_of o 0 n;
-  free = fresh_free o.name 0 n;
-  numbers = fresh_rise o.name 0 0 n (omega arith);
-  shares = omega (arith, fresh_shares o.name 0 n);
+pub all_fresh : (o : Shared) (count : ℕ) (passes : List Passing) → AreFresh o count passes → AreAllPasses o passes
+all_fresh o count passes new = subst (AreAllPasses o) (sym new.are) record {
+  of = fresh_of o 0 new.last new.last new.part;
+  free = fresh_free o.name 0 new.last new.last new.part;
+  numbers = subst (λ k. RiseFrom 0 (map (λ p. p.number) (fresh_from o.name 0 new.last ++ fresh o.name k new.part ∷ []))) (let e : 0 + new.last ≡ new.last = omega arith in e) (fresh_rise o.name 0 0 new.last new.part (omega arith));
+  shares = fresh_shares o.name 0 new.last new.last new.part ∙ new.rest;
 }
 
 pub all_front : {X : Type 0} (P : X → Type 0) (xs ys : List X) → AllByRecursion P (xs ++ ys) → AllByRecursion P xs
 all_front P [] ys all = tt
 all_front P (x ∷ xs) ys all = (all.0, all_front P xs ys all.1)
 
-pub all_last : {X : Type 0} (P : X → Type 0) (xs : List X) (y : X) → AllByRecursion P (xs ++ y ∷ []) → P y
-all_last P [] y all = all.0
-all_last P (x ∷ xs) y all = all_last P xs y all.1
+pub all_at : {X : Type 0} (P : X → Type 0) (xs : List X) (y : X) (ys : List X) → AllByRecursion P (xs ++ y ∷ ys) → P y
+all_at P [] y ys all = all.0
+all_at P (x ∷ xs) y ys all = all_at P xs y ys all.1
 
 -- ---- the entries of one number
 
@@ -114,10 +114,10 @@ prefix_on xs ys zs p q = subst (IsPrefix xs) q.1 (prefix_more xs ys q.0 p)
 
 module _ {S : Type 0} {K : Ghosts S Entry} where
   -- One more pass is taken in.
-  pub taken_more : (lock : TicketLock S Entry) (part : ℕ) (rest ys : List Passing) (p : Passing) (seat new : LockSeat S Entry K) → RiseFrom 0 (map (λ q. q.number) (rest ++ p ∷ ys)) → HasTaken lock part ys seat
+  pub taken_more : (lock : TicketLock S Entry) (rest ys : List Passing) (p : Passing) (seat new : LockSeat S Entry K) → RiseFrom 0 (map (λ q. q.number) (rest ++ p ∷ ys)) → HasTaken lock ys seat
       → IsSeatOf lock new → share_of new ≡ share_of seat + p.sight.share → IsPrefix (seen_of seat) (seen_of new) → IsPrefix p.sight.seen (seen_of new) → own_of new ≡ own_of seat ++ p.sight.own → holds_of new ≡ [] → owes_of new ≡ [] → IsOrderly p
-      → HasTaken lock part (p ∷ ys) new
-  taken_more lock part rest ys p seat new rise was of share front its own holds owes orderly =
+      → HasTaken lock (p ∷ ys) new
+  taken_more lock rest ys p seat new rise was of share front its own holds owes orderly =
       let above : AllByRecursion (λ q. suc p.number ≤ q.number) ys = all_above (suc p.number) ys (rise_after 0 rest p ys rise) in
       let others : AllByRecursion (λ e. e.1.place.lane ≢ p.number) (own_of seat) =
       all_weaker {X = ℕ × Entry} (λ e. 0 < count_of e.1.place.lane (map (λ q. q.number) ys)) (λ e. e.1.place.lane ≢ p.number) (λ e counted same. absurd (let over = count_above (suc p.number) e.1.place.lane ys above counted in omega arith)) (own_of seat) was.within in
@@ -145,18 +145,21 @@ module _ {S : Type 0} {K : Ghosts S Entry} where
             theirs qs above.1 owns.1,
           )
 
-  -- None is taken yet.
-  pub taken_none : (lock : TicketLock S Entry) (seat : LockSeat S Entry K) → IsSeatOf lock seat → own_of seat ≡ [] → holds_of seat ≡ [] → owes_of seat ≡ [] → HasTaken lock (share_of seat) [] seat
-  taken_none lock seat of own holds owes = record {
-    of = of;
-    share = omega arith;
-    holds = holds;
-    owes = owes;
-    seen = tt;
-    own = tt;
-    orderly = tt;
-    within = subst (AllByRecursion (λ e. 0 < count_of e.1.place.lane [])) (sym own) tt;
-  }
+  -- The first is taken.
+  pub taken_one : (lock : TicketLock S Entry) (p : Passing) (seat : LockSeat S Entry K) → IsSeatOf lock seat → sight_of seat ≡ p.sight → IsFree p → IsOrderly p → HasTaken lock (p ∷ []) seat
+  taken_one lock p seat of sight free orderly =
+      let own : own_of seat ≡ p.sight.own = ap (λ s. s.own) sight in
+      record {
+        of = of;
+        share = (let same = ap (λ s. s.share) sight in omega arith);
+        holds = ap (λ s. s.holds) sight ∙ free.holds;
+        owes = ap (λ s. s.owes) sight ∙ free.owes;
+        seen = (subst (λ l. IsPrefix l (seen_of seat)) (ap (λ s. s.seen) sight) (prefix_self (seen_of seat)), tt);
+        own = (ap (own_by p.number) own ∙ own_all p.number p.sight.own orderly.placed, tt);
+        orderly = (orderly, tt);
+        within = subst (AllByRecursion (λ e. 0 < count_of e.1.place.lane (p.number ∷ []))) (sym own)
+            (all_weaker {X = ℕ × Entry} (λ e. e.1.place.lane ≡ p.number) (λ e. 0 < count_of e.1.place.lane (p.number ∷ [])) (λ e same. let one : ◌≡◌ {A = ℕ} (if p.number == e.1.place.lane then 1 else 0) 1 = rw (eq-eqb p.number e.1.place.lane (sym same)) refl in omega arith) p.sight.own orderly.placed);
+      }
 
 -- ---- at the end
 
@@ -200,9 +203,9 @@ parts journal seen own (p ∷ passes) front whole fronts owns orderly =
       parts journal seen own passes front whole fronts.1 owns.1 orderly.1,
     )
 
-pub one_history : {S : Type 0} {K : Ghosts S Entry} (lock : TicketLock S Entry) (part : ℕ) (seat : LockSeat S Entry K) (passes : List Passing) (journal : List Entry) (notes : List Note) → IsRun journal → notes ≡ notes_of journal → HasTaken lock part passes seat → IsPrefix (seen_of seat) journal → IsWhole journal (own_of seat)
+pub one_history : {S : Type 0} {K : Ghosts S Entry} (lock : TicketLock S Entry) (seat : LockSeat S Entry K) (passes : List Passing) (journal : List Entry) (notes : List Note) → IsRun journal → notes ≡ notes_of journal → HasTaken lock passes seat → IsPrefix (seen_of seat) journal → IsWhole journal (own_of seat)
     → OneHistory journal notes passes
-one_history lock part seat passes journal notes run told has front whole =
+one_history lock seat passes journal notes run told has front whole =
     let all : AreAll journal (own_of seat) = are_all journal (own_of seat) whole in
     record {
       run = run;

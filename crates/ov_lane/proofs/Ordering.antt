@@ -1,8 +1,9 @@
 -- The own entries of a pass stay in order as it makes more.
-use Rattle.std.proofs.Common.{ℕ, suc, ◌≡◌, ◌+◌, ◌<◌, ◌≤◌, List, [], ◌∷◌, ◌++◌, length, length-append, refl, sym, ap, ◌∙◌, subst, arith}
+use Rattle.std.proofs.Common.{ℕ, suc, ◌≡◌, ◌+◌, ◌<◌, ◌≤◌, List, [], ◌∷◌, ◌++◌, length, length-append, refl, sym, ap, ◌∙◌, subst, arith, append-nil}
 use Rattle.std.specs.Prelude.{Option}
 use Rattle.std.specs.List.{AllByRecursion}
 use mathlib.Core.List.{IsPrefix}
+use Rattle.ov_base.specs.Sums.{count_of}
 use Rattle.ov_turn.specs.Seats.{Name, Sight}
 use Rattle.ov_model.specs.declared.command.Command.{Command}
 use Rattle.ov_model.specs.declared.entry.Entry.{Entry}
@@ -60,6 +61,8 @@ orderly_called name name' number lines lines' line at old new command r is was =
     let front : length old.seen ≤ p = front_length old.seen is.before is.front in
     let own : List (ℕ × Entry) = old.own ++ from_position p made in
     let all : IsOrderly (record { name = name'; number = number; lines = lines'; sight = record new { own = own } }) = record {
+      share = (let two = was.share in let same = is.share in omega arith);
+      once = λ c. let few = was.once c in let same = ap (count_of c) is.holds in omega arith;
       rise = rise_both 0 p old.own (from_position p made) was.rise (all_weaker (λ e. e.0 < length old.seen) (λ e. e.0 < p) (λ e below. let lt : e.0 < length old.seen = below in omega arith) old.own was.below) (omega arith) (from_rise p made);
       below = all_both (λ e. e.0 < length new.seen) old.own (from_position p made) (all_weaker (λ e. e.0 < length old.seen) (λ e. e.0 < length new.seen) (λ e below. let lt : e.0 < length old.seen = below in omega arith) old.own was.below) (from_below p (length new.seen) made (omega arith));
       placed = all_both (λ e. e.1.place.lane ≡ number) old.own (from_position p made) was.placed (from_placed number p made (refl, releases_placed place at is.os));
@@ -72,8 +75,22 @@ pub orderly_seen : (name name' : Option Name) (number lines lines' : ℕ) (old n
 orderly_seen name name' number lines lines' old new is was =
     let front : length old.seen ≤ length new.seen = front_length old.seen new.seen is.front in
     let all : IsOrderly (record { name = name'; number = number; lines = lines'; sight = record old { seen = new.seen } }) = record {
+      share = was.share;
+      once = was.once;
       rise = was.rise;
       below = all_weaker (λ e. e.0 < length old.seen) (λ e. e.0 < length new.seen) (λ e below. let lt : e.0 < length old.seen = below in omega arith) old.own was.below;
       placed = was.placed;
     } in
     subst (λ (s : Sight Entry). IsOrderly (record { name = name'; number = number; lines = lines'; sight = s })) (sym is.same) all
+
+-- ---- two histories of which each begins the other
+
+pub prefix_both : (xs ys : List Entry) → IsPrefix xs ys → IsPrefix ys xs → xs ≡ ys
+prefix_both xs ys p q =
+    let long : length xs + length p.0 ≡ length ys = sym (length-append xs p.0) ∙ ap length p.1 in
+    let back : length ys + length q.0 ≡ length xs = sym (length-append ys q.0) ∙ ap length q.1 in
+    sym (append-nil xs) ∙ ap (λ l. xs ++ l) (sym (nothing p.0 (omega arith))) ∙ p.1
+  where
+    nothing : (l : List Entry) → length l ≡ 0 → l ≡ []
+    nothing [] e = refl
+    nothing (x ∷ l) e = absurd (omega arith)

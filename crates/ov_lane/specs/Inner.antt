@@ -1,5 +1,5 @@
 -- What the structs of passes and of the shared table are, field by field.
-use Rattle.std.specs.Prelude.{◌≡◌, ℕ, ◌+◌, ◌<◌, List, [], Option, Some, None, map}
+use Rattle.std.specs.Prelude.{◌≡◌, ◌<◌, List, [], Option, Some, None, map}
 use Rattle.std.specs.List.{AllByRecursion}
 use mathlib.Core.List.{IsPrefix}
 use Rattle.ov_base.specs.Sums.{total, count_of}
@@ -8,7 +8,7 @@ use Rattle.ov_lane.specs.Passes.{Passing, IsOrderly}
 use Rattle.ov_turn.specs.declared.kept.Kept.{Ghosts}
 use Rattle.ov_turn.specs.declared.lock.LockSeat.{LockSeat}
 use Rattle.ov_turn.specs.declared.lock.TicketLock.{TicketLock}
-use Rattle.ov_turn.specs.Seats.{Name, Sight, IsSeatOf, cells_of, share_of, seen_of, own_of, holds_of, owes_of, name_of_seat, sight_of}
+use Rattle.ov_turn.specs.Seats.{Name, Sight, IsSeatOf, share_of, seen_of, own_of, holds_of, owes_of, name_of_seat, sight_of}
 use Rattle.ov_model.specs.declared.entry.Entry.{Entry}
 
 module _ {S : Type 0} {K : Ghosts S Entry} where
@@ -29,9 +29,9 @@ module _ {S : Type 0} {K : Ghosts S Entry} where
 
   -- Of these passes the seat has all: what each had seen begins what it has seen, and of its own entries those with a
   -- pass's number are the pass's.
-  pub record HasTaken (lock : TicketLock S Entry) (part : ℕ) (passes : List Passing) (seat : LockSeat S Entry K) : Type 0 where
+  pub record HasTaken (lock : TicketLock S Entry) (passes : List Passing) (seat : LockSeat S Entry K) : Type 0 where
     pub of : IsSeatOf lock seat
-    pub share : share_of seat ≡ part + total (λ p. p.sight.share) passes
+    pub share : share_of seat ≡ total (λ p. p.sight.share) passes
     pub holds : holds_of seat ≡ []
     pub owes : owes_of seat ≡ []
     pub seen : AllByRecursion (λ p. IsPrefix p.sight.seen (seen_of seat)) passes
@@ -43,14 +43,6 @@ module _ {S : Type 0} {K : Ghosts S Entry} where
   pub record IsBlank (lock : TicketLock S Entry) (seat : LockSeat S Entry K) : Type 0 where
     pub of : IsSeatOf lock seat
     pub seen : seen_of seat ≡ []
-    pub own : own_of seat ≡ []
-    pub holds : holds_of seat ≡ []
-    pub owes : owes_of seat ≡ []
-
-  -- The seat of a lock round a table that no pass has: it has made nothing, and holds and owes nothing.
-  pub record IsSpare (lock : TicketLock S Entry) (seat : LockSeat S Entry K) : Type 0 where
-    pub of : IsSeatOf lock seat
-    pub cells : cells_of lock ≡ 69632
     pub own : own_of seat ≡ []
     pub holds : holds_of seat ≡ []
     pub owes : owes_of seat ≡ []

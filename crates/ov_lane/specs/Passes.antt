@@ -1,5 +1,5 @@
 -- The passes of a shared table: what contracts see of one, and what a call makes of it.
-use Rattle.std.specs.Prelude.{◌≡◌, ℕ, zero, suc, ◌+◌, ◌<◌, List, [], ◌∷◌, ◌++◌, Option, Some, length, map, filter, ◌==◌}
+use Rattle.std.specs.Prelude.{◌≡◌, ℕ, zero, suc, ◌+◌, ◌*◌, ◌<◌, ◌≤◌, List, [], ◌∷◌, ◌++◌, Option, Some, length, map, filter, ◌==◌}
 use Rattle.std.specs.List.{AllByRecursion}
 use mathlib.Core.List.{IsPrefix}
 use mathlib.Core.Option.{some}
@@ -64,35 +64,43 @@ pub record CallDone (old new : Passing) (at : ℕ) (command : Command) (r : Repl
   pub called : IsCalled old.sight new.sight (record { lane = old.number; line = old.lines }) at command r
   pub same : new ≡ record old { lines = old.lines + 1; sight = new.sight }
 
--- There was no memory for it.
-pub record CallRefused (old new : Passing) : Type 0 where
+-- More may have been seen, and all else is as it was: after a call for which there was no memory, and where two passes
+-- met.
+pub record OnlySaw (old new : Passing) : Type 0 where
   pub seen : HasSeen old.sight new.sight
   pub same : new ≡ record old { sight = new.sight }
 
--- A shared table: its name, and the share of its lock that no pass has.
+-- A shared table: the name of its lock.
 pub record Shared : Type 0 where
   pub name : Name
-  pub left : ℕ
 
 -- A pass is the table's.
 abbrev pub IsPassOf : Shared → Passing → Type 0
 IsPassOf o p = p.name ≡ Some o.name
 
--- A pass before its first line.
-abbrev pub fresh : Name → ℕ → Passing
-fresh name number = record { name = Some name; number = number; lines = 0; sight = record { share = 2; seen = []; own = []; holds = []; owes = [] } }
+-- A pass before its first line, with a part of the lock's shares.
+abbrev pub fresh : Name → (number part : ℕ) → Passing
+fresh name number part = record { name = Some name; number = number; lines = 0; sight = record { share = part; seen = []; own = []; holds = []; owes = [] } }
 
--- So many passes before their first lines, numbered from a number on.
+-- So many passes before their first lines, numbered from a number on, with two shares each.
 abbrev pub fresh_from : Name → (number count : ℕ) → List Passing
 fresh_from name number zero = []
-fresh_from name number (suc count) = fresh name number ∷ fresh_from name (suc number) count
+fresh_from name number (suc count) = fresh name number 2 ∷ fresh_from name (suc number) count
+
+-- The passes that a table begins with, numbered from 0: the last has the rest of the shares.
+pub record AreFresh (o : Shared) (count : ℕ) (passes : List Passing) : Type 0 where
+  pub last : ℕ
+  pub counted : last + 1 ≡ count
+  pub part : ℕ
+  pub rest : part + 2 * last ≡ 4294967296
+  pub are : passes ≡ fresh_from o.name 0 last ++ fresh o.name last part ∷ []
 
 -- These are all passes of the table, and each holds nothing and owes no release.
 pub record AreAllPasses (o : Shared) (passes : List Passing) : Type 0 where
   pub of : AllByRecursion (IsPassOf o) passes
   pub free : AllByRecursion IsFree passes
   pub numbers : RiseFrom 0 (map (λ p. p.number) passes)
-  pub shares : o.left + total (λ p. p.sight.share) passes ≡ 4294967296
+  pub shares : total (λ p. p.sight.share) passes ≡ 4294967296
 
 -- What a pass has seen begins the journal, and the entries with its number are exactly its own, in order, each at
 -- its position.
@@ -116,8 +124,11 @@ pub record LastReleases (journal : List Entry) : Type 0 where
   pub peers : PeersStayReleased journal
   pub keys : KeysStayReleased journal
 
--- A pass's own entries have its number, and their positions rise below the length of what it has seen.
+-- A pass's own entries have its number, and their positions rise below the length of what it has seen. It has at
+-- least two shares of the lock, and holds a cell at most once.
 pub record IsOrderly (p : Passing) : Type 0 where
+  pub share : 2 ≤ p.sight.share
+  pub once : (c : ℕ) → count_of c p.sight.holds ≤ 1
   pub rise : RiseFrom 0 (positions p.sight.own)
   pub below : AllByRecursion (λ e. e.0 < length p.sight.seen) p.sight.own
   pub placed : AllByRecursion (λ e. e.1.place.lane ≡ p.number) p.sight.own

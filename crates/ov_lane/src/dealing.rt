@@ -1,13 +1,14 @@
 //! Passes made from the seat of a lock, and taken in again.
-ghost use Rattle.std.specs.Prelude.{◌≡◌, ◌+◌, ◌*◌, ◌<◌, ◌≤◌, ◌++◌, [], length, map, Some, IfOk};
+ghost use Rattle.std.specs.Prelude.{◌≡◌, ℕ, ◌+◌, ◌*◌, ◌<◌, ◌≤◌, ◌++◌, [], length, map, Some, IfOk};
 ghost use Rattle.std.specs.List.{AllByRecursion};
 ghost use Rattle.std.specs.Vec.{vec_capacity};
 ghost use mathlib.Core.List.{IsPrefix};
-ghost use Rattle.ov_turn.specs.Seats.{IsSeatOf, share_of, seen_of, own_of, holds_of, owes_of, name_of};
+ghost use Rattle.ov_base.specs.Sums.{count_of};
+ghost use Rattle.ov_turn.specs.Seats.{IsSeatOf, share_of, seen_of, own_of, holds_of, owes_of, name_of, name_of_seat, sight_of};
 ghost use Rattle.ov_model.specs.Own.{RiseFrom};
 ghost use Rattle.ov_lane.specs.Within.{HasRoom};
-ghost use Rattle.ov_lane.specs.Passes.{fresh, fresh_from, IsFree, IsOrderly};
-ghost use Rattle.ov_lane.specs.Inner.{IsBlank, IsSpare, HasTaken};
+ghost use Rattle.ov_lane.specs.Passes.{HasSeen, fresh, fresh_from, IsFree, IsOrderly};
+ghost use Rattle.ov_lane.specs.Inner.{IsBlank, HasTaken};
 
 use crate::pass::Pass;
 use ov_base::Memory;
@@ -17,7 +18,7 @@ use ov_turn::{LockSeat, TicketLock};
 use std::alloc::Global;
 
 // Room for every release that a pass may come to owe.
-fn room(alloc: Global) -> Result<Vec<Owed>, Memory>
+pub(crate) fn room(alloc: Global) -> Result<Vec<Owed>, Memory>
     ensures { IfOk result (λ owed. HasRoom owed) }
 {
     let mut owed = Vec::new(alloc);
@@ -37,6 +38,21 @@ pub(crate) fn rooms(alloc: Global, count: u32) -> Result<Vec<Vec<Owed>>, Memory>
     Ok(rooms)
 }
 
+/// A pass before its first line, with a seat.
+pub(crate) fn pass_of(number: u32, seat: LockSeat<Table>, owed: Vec<Owed>) -> Pass
+    requires blank { (seen_of seat ≡ []) × (own_of seat ≡ []) × (holds_of seat ≡ []) × (owes_of seat ≡ []) }
+    requires share { 2 ≤ share_of seat }
+    requires room { HasRoom owed }
+    ensures { result ≡ fresh (name_of_seat seat) number (share_of seat) }
+{
+    Pass {
+        number,
+        lines: 0,
+        seat: Some(seat),
+        owed,
+    }
+}
+
 /// Cuts a pass off: two shares, so that one may be handed on.
 fn cut(
     lock: &TicketLock<Table>,
@@ -49,17 +65,11 @@ fn cut(
     requires room { HasRoom owed }
     ensures blank { IsBlank lock.entry.now result.0 }
     ensures share { share_of result.0 + 2 ≡ share_of seat }
-    ensures pass { result.1 ≡ fresh (name_of lock.entry.now) number }
+    ensures pass { result.1 ≡ fresh (name_of lock.entry.now) number 2 }
 {
     let (seat, one) = lock.split(seat);
     let (seat, two) = lock.split(seat);
-    let pass = Pass {
-        number,
-        lines: 0,
-        seat: Some(lock.join(one, two)),
-        owed,
-    };
-    (seat, pass)
+    (seat, pass_of(number, lock.join(one, two), owed))
 }
 
 /// Makes a pass for each room, numbered from 0.
@@ -79,6 +89,7 @@ pub(crate) fn deal(
     ensures blank { IsBlank lock.entry.now result }
     ensures share { share_of result + 2 * count ≡ share_of seat }
     ensures passes { passes.new.items ≡ fresh_from (name_of lock.entry.now) 0 count }
+    ensures capacity { vec_capacity passes.new ≡ vec_capacity passes.old }
 {
     for number in 0..count {
         let Some(owed) = rooms.pop() else {
@@ -109,20 +120,31 @@ fn take_in(lock: &TicketLock<Table>, whole: LockSeat<Table>, pass: Pass) -> Lock
     lock.join(whole, seat)
 }
 
+/// The seat of a pass.
+fn seat_of(pass: Pass) -> LockSeat<Table>
+    requires free { IsFree pass }
+    ensures name { pass.name ≡ Some (name_of_seat result) }
+    ensures sight { sight_of result ≡ pass.sight }
+    ensures orderly { IsOrderly pass }
+{
+    let Pass { seat, .. } = pass;
+    let Some(seat) = seat else { unreachable!() };
+    seat
+}
+
 /// Takes all passes in, the last first.
-pub(crate) fn gather(
-    lock: &TicketLock<Table>,
-    spare: LockSeat<Table>,
-    mut passes: Vec<Pass>,
-) -> LockSeat<Table>
-    requires spare { IsSpare lock.now spare }
+pub(crate) fn gather(lock: &TicketLock<Table>, mut passes: Vec<Pass>) -> LockSeat<Table>
+    requires some { 0 < length passes.items }
     requires of { AllByRecursion (λ p. p.name ≡ Some (name_of lock.now)) passes.items }
     requires free { AllByRecursion IsFree passes.items }
     requires numbers { RiseFrom 0 (map (λ p. p.number) passes.items) }
-    ensures { HasTaken lock.entry.now (share_of spare) passes.items result }
+    ensures { HasTaken lock.entry.now passes.items result }
 {
+    let Some(pass) = passes.pop() else {
+        unreachable!()
+    };
+    let mut whole = seat_of(pass);
     let count = passes.len();
-    let mut whole = spare;
     for _taken in 0..count {
         let Some(pass) = passes.pop() else {
             unreachable!()
@@ -130,4 +152,26 @@ pub(crate) fn gather(
         whole = take_in(lock, whole, pass);
     }
     whole
+}
+
+/// Hands each seat what the other has seen, by a share that goes to and fro.
+pub(crate) fn show_both(
+    lock: &TicketLock<Table>,
+    one: LockSeat<Table>,
+    other: LockSeat<Table>,
+) -> (LockSeat<Table>, LockSeat<Table>)
+    requires of { IsSeatOf lock.now one × IsSeatOf lock.now other }
+    requires share { (2 ≤ share_of one) × (2 ≤ share_of other) }
+    requires once { (c : ℕ) → count_of c (holds_of one) ≤ 1 }
+    requires also { (c : ℕ) → count_of c (holds_of other) ≤ 1 }
+    ensures of { IsSeatOf lock.entry.now result.0 × IsSeatOf lock.entry.now result.1 }
+    ensures one { HasSeen (sight_of one) (sight_of result.0) }
+    ensures other { HasSeen (sight_of other) (sight_of result.1) }
+    ensures same { seen_of result.0 ≡ seen_of result.1 }
+{
+    let (one, token) = lock.split(one);
+    let other = lock.join(other, token);
+    let (other, token) = lock.split(other);
+    let one = lock.join(one, token);
+    (one, other)
 }

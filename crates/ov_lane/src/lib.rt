@@ -5,6 +5,8 @@
 mod dealing;
 mod ovpn;
 mod pass;
+#[cfg(test)]
+mod tests;
 mod ticket;
 mod within;
 

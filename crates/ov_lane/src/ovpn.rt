@@ -1,14 +1,14 @@
 //! The shared table: passes, their calls, and the end.
 ghost use Rattle.std.specs.Prelude.{◌≡◌, ◌<◌, ◌≤◌, IfOk, OnErr};
-ghost use Rattle.ov_lane.specs.Passes.{IsPassOf, IsFree, CallDone, CallRefused, AreAllPasses, OneHistory, LastReleases, fresh_from};
+ghost use Rattle.ov_lane.specs.Passes.{IsPassOf, IsFree, CallDone, OnlySaw, AreAllPasses, OneHistory, LastReleases, AreFresh};
 
-use crate::dealing::{deal, gather, rooms};
+use crate::dealing::{deal, gather, pass_of, room, rooms, show_both};
 use crate::pass::Pass;
 use crate::ticket::serve_once;
 use ov_base::{ListOf, Memory};
 use ov_model::{Command, Entry, Note, Place, Reply};
 use ov_table::{CELLS, Table};
-use ov_turn::{LockSeat, TicketLock};
+use ov_turn::TicketLock;
 use std::alloc::Global;
 use std::marker::Model;
 use std::sync::Wait;
@@ -17,20 +17,18 @@ use std::sync::Wait;
 /// gives the history that they share.
 pub struct Ovpn {
     lock: TicketLock<Table>,
-    // The share of the lock that no pass has.
-    spare: LockSeat<Table>,
 }
 
 impl Model for Ovpn {
-    ghost use Rattle.ov_turn.specs.Seats.{name_of, share_of};
+    ghost use Rattle.ov_turn.specs.Seats.{name_of, cells_of};
     ghost use Rattle.ov_lane.specs.Passes.{Shared};
-    ghost use Rattle.ov_lane.specs.Inner.{IsSpare};
+    ghost use Rattle.std.specs.Prelude.{◌≡◌};
 
     ghost Value = { Shared };
 
-    ghost view = { λ o. record { name = name_of o.lock; left = share_of o.spare } };
+    ghost view = { λ o. record { name = name_of o.lock } };
 
-    ghost invariant = { λ o. IsSpare o.lock o.spare };
+    ghost invariant = { λ o. cells_of o.lock ≡ 69632 };
 }
 
 /// What a shared table ends with.
@@ -47,17 +45,20 @@ impl Ovpn {
     /// room that it may need here. `Err` is want of memory.
     pub fn new(alloc: Global, passes: u32) -> Result<(Ovpn, ListOf<Pass>), Memory>
         requires { (1 ≤ passes) × (passes ≤ 64) }
-        ensures passes { IfOk result (λ r. r.1 ≡ fresh_from r.0.name 0 passes) }
+        ensures passes { IfOk result (λ r. AreFresh r.0 passes r.1) }
         ensures all { IfOk result (λ r. AreAllPasses r.0 r.1) }
     {
-        let rooms = rooms(alloc, passes)?;
+        let last = passes - 1;
+        let own = room(alloc)?;
+        let rooms = rooms(alloc, last)?;
         let mut list = Vec::new(alloc);
         list.reserve(passes as usize)?;
         let Ok((lock, seat)) = TicketLock::new(alloc, Table::new(alloc), CELLS) else {
             return Err(Memory);
         };
-        let spare = deal(&lock, seat, passes, rooms, &mut list);
-        Ok((Ovpn { lock, spare }, ListOf::of_vec(list)))
+        let rest = deal(&lock, seat, last, rooms, &mut list);
+        list.push_reserved(pass_of(last, rest, own));
+        Ok((Ovpn { lock }, ListOf::of_vec(list)))
     }
 
     /// Ends the table, with all its passes, and gives the history that they share and its notes.
@@ -66,8 +67,8 @@ impl Ovpn {
         ensures history { OneHistory result.journal result.notes passes }
         ensures releases { LastReleases result.journal }
     {
-        let Ovpn { lock, spare } = self;
-        let whole = gather(&lock, spare, passes.into_vec());
+        let Ovpn { lock } = self;
+        let whole = gather(&lock, passes.into_vec());
         let table = lock.close(whole);
         let (journal, notes) = table.finish();
         Closed { journal, notes }
@@ -87,7 +88,7 @@ impl Ovpn {
         requires free { IsFree pass.old }
         requires lines { pass.old.lines < 18446744073709551615 }
         ensures ok { IfOk result (λ r. CallDone pass.old pass.new at command.now r) }
-        ensures err { OnErr result (CallRefused pass.old pass.new) }
+        ensures err { OnErr result (OnlySaw pass.old pass.new) }
     {
         let Some(seat) = pass.seat.take() else {
             unreachable!()
@@ -101,5 +102,25 @@ impl Ovpn {
         let reply = served?;
         pass.lines += 1;
         Ok(reply)
+    }
+
+    /// Hands each pass what the other has seen: then both have seen the longer of the two histories. It waits for
+    /// nobody.
+    pub fn meet(&self, one: &mut Pass, other: &mut Pass)
+        requires one { IsPassOf self.now one.old }
+        requires other { IsPassOf self.now other.old }
+        ensures one { OnlySaw one.old one.new }
+        ensures other { OnlySaw other.old other.new }
+        ensures same { one.new.sight.seen ≡ other.new.sight.seen }
+    {
+        let Some(first) = one.seat.take() else {
+            unreachable!()
+        };
+        let Some(second) = other.seat.take() else {
+            unreachable!()
+        };
+        let (first, second) = show_both(&self.lock, first, second);
+        one.seat = Some(first);
+        other.seat = Some(second);
     }
 }

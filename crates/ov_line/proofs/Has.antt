@@ -1,6 +1,6 @@
 -- Facts on what objects have under names.
-use Rattle.std.proofs.Common.{◌≡◌, ◌∙◌, ℕ, ◌≤◌, List, Option, Some, None, Result, Ok, Err, Bool, true, false, refl, sym, ap, subst}
-use Rattle.std.specs.Prelude.{is_some, option_and_then, IfErr, IsErr, IsErrAnd, ⊤}
+use Rattle.std.proofs.Common.{◌≡◌, ◌∙◌, ℕ, List, Option, Some, None, false, refl, sym, ap, subst}
+use Rattle.std.specs.Prelude.{is_some, option_and_then}
 use Rattle.serde_json.specs.Data.{Data, null, boolean, number, string, array, object, Num, unsigned, negative, float}
 use Rattle.serde_json.specs.Find.{get, as_str, as_number, as_u64, as_object}
 use Rattle.ov_line.specs.Values.{Given, Has}

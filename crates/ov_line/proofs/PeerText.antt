@@ -1,5 +1,5 @@
 -- The compact text of a line that makes a peer says the line.
-use Rattle.std.proofs.Common.{◌≡◌, ◌∙◌, ℕ, ◌<◌, ◌≤◌, ◌^◌, List, ◌∷◌, ◌++◌, codes, Some, None, refl, sym, ap, subst, append_assoc, arith}
+use Rattle.std.proofs.Common.{◌≡◌, ◌∙◌, ℕ, ◌<◌, ◌^◌, List, ◌∷◌, ◌++◌, codes, Some, None, refl, sym, ap, subst, append_assoc, arith}
 use Rattle.std.specs.Prelude.{decimal}
 use Rattle.std.specs.Str.{IsUtf8}
 use Rattle.std.specs.Net.Grammar.{IsDotted}

@@ -1,9 +1,9 @@
 -- The text of an object goes on name by name.
 use Rattle.std.proofs.Common.{◌≡◌, ◌∙◌, ℕ, List, [], ◌∷◌, ◌++◌, ◌≤◌, ◌==◌, ◌&&◌, not, nat_le, codes, Bool, true, false, Option, Some, refl, sym, subst, ap, ap₂, append_assoc, arith}
-use Rattle.json.specs.Print.{escape, quoted}
+use Rattle.json.specs.Print.{escape}
 use Rattle.json.proofs.Printed.Strings.{escape_byte_plain}
 use Rattle.std.proofs.lemmas.Bool.Decides.{nat_tests}
-use Rattle.serde_json.specs.Data.{Data, string, object, Members, member}
+use Rattle.serde_json.specs.Data.{Data, string, object, Members}
 use Rattle.serde_json.specs.Written.{comma_if, compact_text, members_text}
 use Rattle.ov_model.specs.declared.command.Slot.{Slot}
 use Rattle.ov_model.specs.declared.command.Slot.TheVariants as slot

@@ -1,8 +1,7 @@
 -- Bytes say one line at most.
-use Rattle.std.proofs.Common.{◌≡◌, ◌∙◌, ℕ, ◌≤◌, List, [], ◌∷◌, ◌++◌, ◌==◌, if◌then◌else◌, length, decimal, codes, Option, Some, None, Result, Ok, Err, false, true, refl, sym, ap, ap₂, subst}
+use Rattle.std.proofs.Common.{◌≡◌, ◌∙◌, ℕ, List, [], ◌∷◌, ◌++◌, ◌==◌, if◌then◌else◌, length, decimal, codes, Option, Some, None, Result, Ok, true, refl, sym, ap, ap₂, subst}
 use Rattle.std.specs.Prelude.{option_and_then}
 use Rattle.std.specs.List.{AllPass}
-use Rattle.std.specs.declared.net.ipv4_addr.Ipv4Addr.{Ipv4Addr}
 use Rattle.std.specs.Net.Addr.{ipv4_octets}
 use Rattle.std.specs.Net.Grammar.{IsDotted}
 use Rattle.std.proofs.lemmas.Bool.{false≢true}
@@ -12,16 +11,12 @@ use Rattle.hex.specs.Hex.{is_hex_digit, decode_of, decode_sized}
 use Rattle.hex.proofs.HexLemmas.{decode_of-same, decode_of-ok, decode_sized-ok, decode_sized-twice}
 use Rattle.hex.specs.declared.error.FromHexError.{FromHexError}
 use Rattle.serde_json.specs.Data.{Data, string, number, unsigned}
-use Rattle.serde_json.specs.Read.{read}
 use Rattle.serde_json.specs.Find.{get, as_number, as_u64}
-use Rattle.ov_base.specs.declared.address.Addr.{Addr}
 use Rattle.ov_base.specs.declared.address.Addr.TheVariants.{V4, V6}
-use Rattle.ov_base.specs.declared.address.Transport.{Transport}
 use Rattle.ov_model.specs.Ident.{peer_id}
 use Rattle.ov_model.specs.Limits.{longest_packet, longest_datagram}
 use Rattle.ov_model.proofs.PeerIds.{peer_id_of}
 use Rattle.ov_model.specs.declared.ident.PeerId.{PeerId}
-use Rattle.ov_model.specs.declared.command.Slot.{Slot}
 use Rattle.ov_model.specs.declared.command.Slot.TheVariants as slot
 use Rattle.ov_model.specs.declared.command.Reason.{Reason}
 use Rattle.ov_model.specs.declared.command.Reason.TheVariants as reason
@@ -31,15 +26,12 @@ use Rattle.ov_model.specs.declared.line.Deed.TheVariants as deed
 use Rattle.ov_model.specs.declared.netlink.Cipher.{Cipher}
 use Rattle.ov_model.specs.declared.netlink.Cipher.TheVariants as cipher
 use Rattle.ov_model.specs.declared.netlink.NlOp.{NlOp}
-use Rattle.ov_model.specs.declared.netlink.NlPeer.{NlPeer}
-use Rattle.ov_model.specs.declared.netlink.NlKeyDir.{NlKeyDir}
-use Rattle.ov_model.specs.declared.netlink.NlKeyConf.{NlKeyConf}
 use Rattle.ov_model.specs.declared.netlink.NlMessage.{NlMessage}
 use Rattle.ov_line.specs.declared.grammar.Form.{Form}
 use Rattle.ov_line.specs.declared.grammar.Form.TheVariants as form
 use Rattle.ov_line.specs.Values.{Given, Has, IsNumber, most_number, IsHex, IsIpv4, IsIpv6, IsAddr, IsWord}
 use Rattle.ov_line.specs.Forms.{deed_form}
-use Rattle.ov_line.specs.Grammar.{slot_word, cipher_word, peer_names, conf_names, most_key_bytes, IsPeer, IsDir, IsConf, IsTransport, IsId, IsLoss, IsLost, IsMessage, IsTx, IsRx, IsLoser, IsDeed, IsLine, Says}
+use Rattle.ov_line.specs.Grammar.{slot_word, cipher_word, peer_names, conf_names, most_key_bytes, IsPeer, IsDir, IsConf, IsTransport, IsId, IsLoss, IsLost, IsMessage, IsDeed, IsLine, Says}
 use Rattle.ov_line.proofs.Has.{string_same}
 use Rattle.ov_line.proofs.Options.{some_same}
 use Rattle.ov_line.proofs.Words.{has_form, one_form}

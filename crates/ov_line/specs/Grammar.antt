@@ -1,5 +1,5 @@
 -- The grammar of a script's lines: which line some bytes say.
-use Rattle.std.specs.Prelude.{⊤, ◌≡◌, ◌<◌, ℕ, List, [], ◌∷◌, codes, IsTrue, Some, Result, Ok, Err}
+use Rattle.std.specs.Prelude.{◌≡◌, ◌<◌, ℕ, List, [], ◌∷◌, codes, IsTrue, Some}
 use Rattle.std.specs.Str.{IsUtf8}
 use Rattle.serde_json.specs.Data.{Data, string, number, unsigned}
 use Rattle.serde_json.specs.Read.{read}
@@ -57,10 +57,11 @@ cipher_word cipher.ChaCha20Poly1305 = codes "chacha20-poly1305"
 
 -- ---- names
 
--- The names of a line that asks for an operation on one peer, or on a key.
+-- The names of a line that asks for an operation on one peer.
 abbrev pub peer_line : List (List ℕ)
 peer_line = codes "at" ∷ codes "do" ∷ codes "ifindex" ∷ codes "lane" ∷ codes "peer" ∷ []
 
+-- The names of a line that asks for an operation on a key.
 abbrev pub key_line : List (List ℕ)
 key_line = codes "at" ∷ codes "do" ∷ codes "ifindex" ∷ codes "keyconf" ∷ codes "lane" ∷ []
 

@@ -1,14 +1,13 @@
 -- The canonical text of a line: a compact JSON object (RFC 8259) with exactly the names that have a value, in
 -- ascending byte order at each level, and digits in lower case.
-use Rattle.std.specs.Prelude.{◌≡◌, ◌≤◌, ◌<◌, ℕ, List, [], ◌∷◌, ◌++◌, length, codes, Bool, IsTrue, IfSome, Option, Some, None, option_map, ⊤}
+use Rattle.std.specs.Prelude.{◌≡◌, ℕ, List, [], ◌∷◌, ◌++◌, codes, Bool, Option, Some, None, option_map}
 use Rattle.std.specs.Net.Text.{ipv4_text}
-use Rattle.hex.specs.Hex.{encode_lower, IsBytes}
+use Rattle.hex.specs.Hex.{encode_lower}
 use Rattle.serde_json.specs.Data.{Data, string, number, unsigned, object, Members, no_members, member}
 use Rattle.serde_json.specs.Written.{compact_text, members_text}
 use Rattle.ov_base.specs.declared.address.Addr.{Addr}
 use Rattle.ov_base.specs.declared.address.Addr.TheVariants.{V4, V6}
 use Rattle.ov_base.specs.declared.address.Transport.{Transport}
-use Rattle.ov_model.specs.Limits.{longest_packet, longest_datagram}
 use Rattle.ov_model.specs.declared.ident.PeerId.{PeerId}
 use Rattle.ov_model.specs.declared.command.Reason.{Reason}
 use Rattle.ov_model.specs.declared.command.Reason.TheVariants as reason
@@ -18,9 +17,7 @@ use Rattle.ov_model.specs.declared.line.Deed.TheVariants as deed
 use Rattle.ov_model.specs.declared.netlink.NlPeer.{NlPeer}
 use Rattle.ov_model.specs.declared.netlink.NlKeyDir.{NlKeyDir}
 use Rattle.ov_model.specs.declared.netlink.NlKeyConf.{NlKeyConf}
-use Rattle.ov_model.specs.declared.netlink.NlMessage.{NlMessage}
-use Rattle.ov_line.specs.Values.{most_number, has_only}
-use Rattle.ov_line.specs.Grammar.{op_word, deed_word, slot_word, cipher_word, message_names, peer_names, conf_names, most_key_bytes}
+use Rattle.ov_line.specs.Grammar.{op_word, slot_word, cipher_word}
 
 -- A name of an object, with its value where it has one.
 abbrev pub Field : Type 0
@@ -36,13 +33,15 @@ abbrev pub given : List Field → Members
 given [] = no_members
 given (f ∷ fs) = with_field f.0 f.1 (given fs)
 
--- A number; an IPv4 address in dotted decimal; bytes as hexadecimal digits.
+-- A number.
 abbrev pub num : ℕ → Data
 num n = number (unsigned n)
 
+-- An IPv4 address in dotted decimal.
 abbrev pub ipv4 : List ℕ → Data
 ipv4 octets = string (ipv4_text octets)
 
+-- Bytes as hexadecimal digits in lower case, two for each.
 abbrev pub hex : List ℕ → Data
 hex bytes = string (encode_lower bytes)
 
@@ -77,9 +76,11 @@ peer_fields p =
     ∷ (codes "vpn-ipv4", option_map ipv4 p.vpn_ipv4)
     ∷ (codes "vpn-ipv6", option_map hex p.vpn_ipv6) ∷ []
 
+-- Those of the attributes of a peer that are given.
 unfoldable pub peer_members : NlPeer → Members
 peer_members p = given (peer_fields p)
 
+-- The object of a peer.
 abbrev pub peer_data : NlPeer → Data
 peer_data p = object (peer_members p)
 
@@ -87,9 +88,11 @@ peer_data p = object (peer_members p)
 abbrev pub dir_fields : NlKeyDir → List Field
 dir_fields d = (codes "cipher-key", option_map hex d.cipher_key) ∷ (codes "nonce-tail", option_map hex d.nonce_tail) ∷ []
 
+-- Those parts of a direction of a key that are given.
 unfoldable pub dir_members : NlKeyDir → Members
 dir_members d = given (dir_fields d)
 
+-- The object of a direction of a key.
 abbrev pub dir_data : NlKeyDir → Data
 dir_data d = object (dir_members d)
 
@@ -103,9 +106,11 @@ conf_fields k =
     ∷ (codes "peer-id", option_map num k.peer_id)
     ∷ (codes "slot", option_map (λ s. string (slot_word s)) k.slot) ∷ []
 
+-- Those of the attributes of a key that are given.
 unfoldable pub conf_members : NlKeyConf → Members
 conf_members k = given (conf_fields k)
 
+-- The object of a key.
 abbrev pub conf_data : NlKeyConf → Data
 conf_data k = object (conf_members k)
 
@@ -113,9 +118,11 @@ conf_data k = object (conf_members k)
 abbrev pub from_fields : Transport → List Field
 from_fields t = (codes "addr", Some (string (addr_text t.addr))) ∷ (codes "port", Some (num t.port)) ∷ []
 
+-- The members of a transport.
 unfoldable pub from_members : Transport → Members
 from_members t = given (from_fields t)
 
+-- The object of a transport.
 abbrev pub from_data : Transport → Data
 from_data t = object (from_members t)
 
@@ -123,9 +130,11 @@ from_data t = object (from_members t)
 abbrev pub lost_fields : PeerId → Reason → List Field
 lost_fields id why = (codes "del-reason", Some (string (reason_word why))) ∷ (codes "id", Some (num id.number)) ∷ []
 
+-- The members of a peer whose transport is lost.
 unfoldable pub lost_members : PeerId → Reason → Members
 lost_members id why = given (lost_fields id why)
 
+-- The object of a peer whose transport is lost.
 abbrev pub lost_data : PeerId → Reason → Data
 lost_data id why = object (lost_members id why)
 
@@ -142,9 +151,11 @@ deed_fields at lane (deed.Rx from datagram) =
 deed_fields at lane (deed.Lost id why) =
     (codes "at", Some (num at)) ∷ (codes "do", Some (string (codes "lost"))) ∷ (codes "lane", Some (num lane)) ∷ (codes "peer", Some (lost_data id why)) ∷ []
 
+-- Those names of a line that have a value.
 unfoldable pub line_members : ℕ → ℕ → Deed → Members
 line_members at lane asked = given (deed_fields at lane asked)
 
+-- The object of a line.
 abbrev pub line_data : Line → Data
 line_data line = object (line_members line.at line.lane line.deed)
 

@@ -7,6 +7,8 @@ pub mod compact_peer;
 pub mod compact_rx;
 pub mod compact_tx;
 pub mod digits;
+#[cfg(test)]
+mod forms_tests;
 pub mod grammar;
 pub mod keyconf;
 pub mod laws;

@@ -4,6 +4,7 @@ ghost use Rattle.std.specs.Prelude.{◌≡◌, ◌++◌, ◌∷◌, ℕ, false, 
 ghost use Rattle.serde_json.specs.Data.{string};
 ghost use Rattle.serde_json.specs.Written.{members_text};
 ghost use Rattle.ov_line.specs.Grammar.{Says, op_word};
+ghost use Rattle.ov_line.specs.Listed.{IsListed};
 ghost use Rattle.ov_line.specs.Text as spec;
 
 use crate::write::{put_hex, put_number, put_some_number, put_text};
@@ -131,6 +132,8 @@ const ROOM: usize = 256;
 #[tactic(auto, unfolding(crate::specs::Text::line_text))]
 pub fn line_bytes(alloc: Global, line: &Line) -> Result<Octets, Memory>
     ensures text { IfOk result (λ bytes. bytes ≡ spec.line_text line.now) }
+    ensures reads { IfOk result (λ bytes. (lanes : ℕ) → IsListed lanes line.now
+        → Says bytes lanes line.now) }
 {
     let mut page = Vec::with_capacity(alloc, ROOM)?;
     page.extend_from_slice(b"{")?;

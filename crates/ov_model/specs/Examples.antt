@@ -213,10 +213,11 @@ pub record NewExamples (id other : PeerId) : Type 0 where
   pub no_space : (peer_new (table_5 id None None 4096) 0 (apart other)).reply ≡ reply.Refused NoSpace
   pub last_one : (peer_new (table_5 id None None 4095) 0 (apart other)).reply ≡ reply.Made 4095
 
--- The peer 6, live and without keys, and a table with the peers 5 and 6, made in this order.
+-- The peer 6, live and without keys.
 abbrev pub live_6 : PeerId → Peer
 live_6 other = peer_of 1 0 (apart other) transport_6
 
+-- A table with the peers 5 and 6, made in this order.
 abbrev pub both : PeerId → PeerId → Option Key → Table
 both id other primary = record empty_table { live = live_5 id primary None ∷ live_6 other ∷ []; made = 2 }
 
@@ -289,20 +290,23 @@ pub record IdExamples : Type 0 where
 
 -- ---- routes
 
--- An IPv4 address of four bytes, and fd00::5 of IPv6.
+-- An IPv4 address of four bytes.
 abbrev pub at_v4 : (a b c d : ℕ) → Addr
 at_v4 a b c d = V4 (a ∷ b ∷ c ∷ d ∷ [])
 
+-- The IPv6 address fd00::5.
 abbrev pub at_v6 : Addr
 at_v6 = V6 (253 ∷ 0 ∷ 0 ∷ 0 ∷ 0 ∷ 0 ∷ 0 ∷ 0 ∷ 0 ∷ 0 ∷ 0 ∷ 0 ∷ 0 ∷ 0 ∷ 0 ∷ 5 ∷ [])
 
--- 192.168.5.0/24 is behind the peer 5, 192.168.0.0/16 behind the peer 6, and all else behind 10.8.0.1.
+-- 192.168.5.0/24 is behind the peer 5.
 abbrev pub to_5 : Route
 to_5 = record { prefix = at_v4 192 168 5 0; length = 24; hop = at_v4 10 8 0 5 }
 
+-- 192.168.0.0/16 is behind the peer 6.
 abbrev pub to_6 : Route
 to_6 = record { prefix = at_v4 192 168 0 0; length = 16; hop = at_v4 10 8 0 6 }
 
+-- All else of IPv4 is behind 10.8.0.1.
 abbrev pub to_all : Route
 to_all = record { prefix = at_v4 0 0 0 0; length = 0; hop = at_v4 10 8 0 1 }
 

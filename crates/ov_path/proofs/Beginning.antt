@@ -1,9 +1,8 @@
 -- How a line begins: by its head, and never with what was sealed.
-use Rattle.std.proofs.Common.{ℕ, ◌≡◌, List, [], refl, sym, ap, subst}
+use Rattle.std.proofs.Common.{◌≡◌, List, [], refl, ap}
 use Rattle.std.specs.Prelude.{Option, Some, None, Result, Ok, Err}
 use Rattle.ov_base.specs.declared.address.Addr.{Addr}
 use Rattle.ov_base.specs.declared.address.Transport.{Transport}
-use Rattle.ov_model.specs.declared.act.Act.{Act}
 use Rattle.ov_model.specs.declared.act.Act.TheVariants as act
 use Rattle.ov_model.specs.declared.command.Command.{Command}
 use Rattle.ov_model.specs.declared.ident.PeerId.{PeerId}
@@ -17,7 +16,7 @@ use Rattle.ov_model.specs.Checked.{checked}
 use Rattle.ov_model.specs.Events.{DrawnId}
 use Rattle.ov_model.specs.Keys.{sealed_ids}
 use Rattle.ov_model.specs.Packets.{HeadKind, short, data_v1, control, data_v2, head_of, Inner, v4, v6, not_ip, inner_of}
-use Rattle.ov_model.specs.Path.{Begin, at_once, first, begins, begins_netlink, begins_tx, begins_rx, rx_look_by, IsLook}
+use Rattle.ov_model.specs.Path.{Begin, at_once, first, begins, begins_netlink, begins_tx, begins_rx, rx_look_by}
 use Rattle.ov_model.proofs.PeerIds.{peer_id_of, key_id_of}
 use Rattle.ov_packet.specs.declared.head.Head.{Head}
 use Rattle.ov_path.specs.declared.stage.Stage.TheVariants as stage

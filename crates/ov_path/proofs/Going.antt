@@ -6,7 +6,6 @@ use Rattle.ov_base.specs.declared.address.Transport.{Transport}
 use Rattle.ov_model.specs.declared.place.Place.{Place}
 use Rattle.ov_model.specs.declared.act.Act.{Act}
 use Rattle.ov_model.specs.declared.act.Act.TheVariants as act
-use Rattle.ov_model.specs.declared.act.Call.{Call}
 use Rattle.ov_model.specs.declared.command.Command.{Command}
 use Rattle.ov_model.specs.declared.draw.Drawn.{Drawn}
 use Rattle.ov_model.specs.declared.draw.Drawn.TheVariants as drawn
@@ -33,18 +32,18 @@ use Rattle.ov_model.specs.declared.answer.Answer.TheVariants as answer
 use Rattle.ov_model.specs.declared.answer.DropCause.TheVariants as drop
 use Rattle.ov_model.specs.Tables.{Material}
 use Rattle.ov_model.specs.Packets.{opened, packet_id_of}
-use Rattle.ov_model.specs.Events.{Event, Stepped, Judged, Drew, GaveKey, GavePeer, release_of}
-use Rattle.ov_model.specs.Path.{first, begins, IsLook, sent_act, settle_act, packet_in, sealed_datagram, refused_as, cause_of, settled_answer, spent_reply}
+use Rattle.ov_model.specs.Events.{Event, Stepped, Drew, GaveKey, GavePeer, release_of}
+use Rattle.ov_model.specs.Path.{first, begins, IsLook, sent_act, settle_act, sealed_datagram, refused_as, cause_of, settled_answer, spent_reply}
 use Rattle.ov_model.specs.Next as next
 use Rattle.ov_model.specs.Next.{Ask, Table, see, see_all, stand_of, is_killed, began, looked}
-use Rattle.ov_path.specs.Desks.{Holding, NoHold, View, SameLine, Leaves, Did, Called, Joins, HasMaterial, HoldHas, IsReplyOf, IsLookReply, IsSpendReply, IsFree, MayCall, look_holds, judged_at, held_after, peer_left, owed_if, first_owed, after_first, stepped_as}
+use Rattle.ov_path.specs.Desks.{Holding, View, SameLine, Leaves, Did, Called, Joins, HasMaterial, HoldHas, IsSpendReply, look_holds, judged_at, held_after, owed_if, first_owed, after_first}
 use Rattle.ov_path.specs.Parts.{refusal, PurposeFits}
 use Rattle.ov_path.specs.Stages.{stand_at}
 use Rattle.ov_path.specs.declared.stage.Purpose.{Purpose}
 use Rattle.ov_path.specs.declared.stage.Purpose.TheVariants as purpose
 use Rattle.ov_path.specs.declared.stage.Stage.{Stage}
 use Rattle.ov_path.specs.declared.stage.Stage.TheVariants as stage
-use Rattle.ov_path.specs.Walks.{released, judged_as, Opens, Held, AtKeyGiven, Trail, Walking, HopIsOwn, Made}
+use Rattle.ov_path.specs.Walks.{released, judged_as, Opens, Held, AtKeyGiven, Trail, Walking}
 
 -- ---- events
 

@@ -1,6 +1,6 @@
 -- The event that a turn makes is the one that comes next, and it is the line's own.
-use Rattle.std.proofs.Common.{ℕ, ◌≡◌, List, [], ◌∷◌, ◌++◌, refl, sym, ◌∙◌, ap, subst}
-use Rattle.std.specs.Prelude.{Option, Some, None}
+use Rattle.std.proofs.Common.{ℕ, ◌≡◌, List, [], refl, ◌∙◌, ap, subst}
+use Rattle.std.specs.Prelude.{Some, None}
 use Rattle.ov_base.specs.declared.address.Addr.{Addr}
 use Rattle.ov_base.specs.declared.address.Transport.{Transport}
 use Rattle.ov_model.specs.declared.place.Place.{Place}
@@ -21,16 +21,16 @@ use Rattle.ov_model.specs.declared.line.Deed.TheVariants as deed
 use Rattle.ov_model.specs.declared.answer.Answer.{Answer}
 use Rattle.ov_model.specs.Tables.{Material}
 use Rattle.ov_model.specs.Packets.{opened, packet_id_of}
-use Rattle.ov_model.specs.Events.{Event, Stepped, Judged, Drew, GaveKey, GavePeer, release_of}
+use Rattle.ov_model.specs.Events.{Event, Stepped, Drew, GaveKey, GavePeer, release_of}
 use Rattle.ov_model.specs.Path.{at_once, first, begins, sent_act, settle_act}
-use Rattle.ov_model.specs.Next.{Ask, Table, request, release_act}
-use Rattle.ov_path.specs.Desks.{View, Did, Called, judged_at, first_owed, after_first, stepped_as}
+use Rattle.ov_model.specs.Next.{Table, request, release_act}
+use Rattle.ov_path.specs.Desks.{View, Did, Called, judged_at, first_owed, stepped_as}
 use Rattle.ov_path.specs.declared.stage.Purpose.TheVariants as purpose
 use Rattle.ov_path.specs.declared.stage.Stage.TheVariants as stage
 use Rattle.ov_path.specs.Walks.{Opens, Walking, IsOwn, next_at, Made, MadeOrNone, made, nothing, MadeBy}
 use Rattle.ov_path.specs.declared.walk.Progress.{Progress}
 use Rattle.ov_path.specs.declared.walk.Progress.TheVariants.{More, Answered}
-use Rattle.ov_path.proofs.Going.{Tx, is_tx, first_is}
+use Rattle.ov_path.proofs.Going.{is_tx, first_is}
 
 release_asked : (place : Place) (at : ℕ) (o : Owed) → request (Stepped (release_of place at o)) ≡ Table (release_act o)
 release_asked place at (owed.Peer p) = refl

@@ -15,7 +15,7 @@ use Rattle.ov_model.specs.declared.reply.HoldView.{HoldView}
 use Rattle.ov_model.specs.declared.reply.Reply.{Reply}
 use Rattle.ov_model.specs.declared.reply.Reply.TheVariants as reply
 use Rattle.ov_model.specs.Tables.{Material}
-use Rattle.ov_model.specs.Events.{Event, Stepped, GaveKey, GavePeer, Judgement, Judged}
+use Rattle.ov_model.specs.Events.{Event, Stepped, GaveKey, GavePeer, Judged}
 use Rattle.ov_model.specs.Path.{SomeOwed, removed, spent_taken}
 use Rattle.ov_model.specs.declared.draw.Drawn.TheVariants as drawn
 use Rattle.ov_model.specs.declared.stand.Stand.{Stand}

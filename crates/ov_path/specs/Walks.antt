@@ -1,5 +1,5 @@
 -- Where a line that runs stands: what happened so far, by cases of the stand, and what one turn does.
-use Rattle.std.specs.Prelude.{ℕ, ◌≡◌, ◌≤◌, length, ⊤, List, [], ◌∷◌, ◌++◌, Option, Some, None, map}
+use Rattle.std.specs.Prelude.{ℕ, ◌≡◌, ◌≤◌, length, ⊤, List, [], ◌∷◌, ◌++◌, Some, map}
 use Rattle.ov_base.specs.declared.address.Addr.{Addr}
 use Rattle.ov_model.specs.declared.place.Place.{Place}
 use Rattle.ov_model.specs.declared.act.Act.{Act}
@@ -17,8 +17,6 @@ use Rattle.ov_model.specs.declared.replay.Verdict.{Verdict}
 use Rattle.ov_model.specs.declared.replay.Verdict.TheVariants as verdict
 use Rattle.ov_model.specs.declared.stand.Use.{Use}
 use Rattle.ov_model.specs.declared.stand.Use.TheVariants as used
-use Rattle.ov_model.specs.declared.stand.Stand.{Stand}
-use Rattle.ov_model.specs.declared.stand.Stand.TheVariants as stand
 use Rattle.ov_model.specs.declared.line.Line.{Line}
 use Rattle.ov_model.specs.declared.line.Deed.{Deed}
 use Rattle.ov_model.specs.declared.line.Deed.TheVariants as deed

@@ -1,7 +1,7 @@
 -- What the matches have of MODE and of the schedule.
 use Rattle.std.proofs.Common.{ℕ, List, [], ◌≡◌, ◌≢◌, ◌∙◌, ap, subst, sym, codes, Option, Some, None}
 use Rattle.std.specs.Prelude.{IfSome, unwrap_or}
-use Rattle.clap.specs.Words.{first_of, first_value, rows_of}
+use Rattle.clap.specs.Words.{first_value, rows_of}
 use Rattle.clap.specs.declared.parser.matches.Found.{Found}
 use Rattle.clap.proofs.WalkLemmas.{first_value-rows}
 use Rattle.ov_plan.specs.declared.words.Mode.{Mode}

@@ -1,20 +1,18 @@
 -- What clap found for an option that takes a number.
-use Rattle.std.proofs.Common.{ℕ, zero, suc, ◌≡◌, ◌⊎◌, ◌<◌, ◌≤◌, ◌^◌, ◌&&◌, Bool, true, false, not, List, [], ◌∷◌, length, map, Option, Some, None, Result, Ok, Err, refl, sym, ◌∙◌, ap, subst, inl, inr, arith, true≢false, option_map, is_some}
-use Rattle.std.specs.Prelude.{codes, find, slice_get, unwrap_or}
+use Rattle.std.proofs.Common.{ℕ, zero, suc, ◌≡◌, ◌<◌, ◌≤◌, ◌^◌, ◌&&◌, Bool, true, false, not, List, [], ◌∷◌, length, map, Option, Some, None, Result, Ok, Err, refl, sym, ◌∙◌, ap, subst, inl, inr, arith, true≢false, option_map}
+use Rattle.std.specs.Prelude.{codes, slice_get, unwrap_or}
 use Rattle.std.specs.List.{All, list_all, slice_index_or}
-use Rattle.std.specs.Option.{option_map_or}
 use Rattle.std.specs.Str.{bytes_eq}
 use Rattle.std.specs.Str.Parse.{ParsesUnsigned, digits_value, without_leading_plus}
 use Rattle.std.specs.Borrow.{Bor}
 use Rattle.std.proofs.lemmas.Slice.Eq.{bytes_eq-Decides}
 use Rattle.std.proofs.lemmas.List.Elements.{All-get_or}
-use Rattle.clap.specs.Words.{App, AddsArg, Row, Rule, Text, IsParsedFrom, IsUnsignedIn, SameRules, app_of, args_of, first_of, first_value, found_of, groups_of, has_subcommand, matched_of, one_text, parser_of, reading_of, rows_of, rule_of, IsParsed, ReadsOne, Accepts, read_as}
+use Rattle.clap.specs.Words.{App, Rule, Text, IsParsedFrom, IsUnsignedIn, app_of, args_of, first_value, found_of, groups_of, has_subcommand, matched_of, one_text, parser_of, reading_of, rows_of, rule_of, IsParsed, ReadsOne, Accepts, read_as}
 use Rattle.clap.specs.Built.{IsAuto}
 use Rattle.clap.specs.Facts.{Entry, EntryPasses, HasReading, PassesArg, parser_of_value}
 use Rattle.clap.specs.Simple.{shape_of}
 use Rattle.clap.specs.declared.builder.arg.Arg.{Arg}
 use Rattle.clap.specs.declared.builder.command.Command.{Command}
-use Rattle.clap.specs.declared.builder.command.Command.TheViews.{out-Command}
 use Rattle.clap.specs.declared.builder.value_parser.Reading.{Reading}
 use Rattle.clap.specs.declared.builder.value_parser.Reading.TheVariants.{AsWritten}
 use Rattle.clap.specs.declared.builder.value_parser.ValueParser.{ValueParser}

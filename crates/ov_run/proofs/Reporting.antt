@@ -80,7 +80,7 @@ all_counted taken script good lines report c old new before now is_script count 
     counted_by taken lines report c old new before now ends (same ∙ count ∙ lengths lanes_read (whole_lines taken) script.lines is_script.lines)
 
 -- What is counted where reading stopped.
-pub stop_counted : (taken : List ℕ) (good : ℕ) (s : ReadStop) → Counts taken (Err s) good → Counted taken good None (cause_of_stop s)
+pub stop_counted : (taken : List ℕ) (good : ℕ) (s : ReadStop) → Counts lanes_read taken (Err s) good → Counted taken good None (cause_of_stop s)
 stop_counted taken good stop.Read is = is
 stop_counted taken good (stop.Bad n) is = is
 stop_counted taken good (stop.Limit l) is = is

@@ -9,12 +9,13 @@ use Rattle.ov_model.specs.declared.line.Script.{Script}
 use Rattle.ov_model.specs.declared.report.Report.{Report}
 use Rattle.ov_model.specs.declared.report.LaneLog.{LaneLog}
 use Rattle.ov_model.specs.Legal.{Legal}
+use Rattle.ov_model.specs.Via.{via_of}
 use Rattle.ov_core.specs.Sessions.{Serial, Scheduled}
 use Rattle.ov_plan.specs.declared.words.Mode.{Mode}
 use Rattle.ov_plan.specs.declared.words.Mode.TheVariants.{Trace, Steps}
 use Rattle.ov_plan.specs.declared.words.RunPlan.{RunPlan}
 use Rattle.ov_plan.specs.Plan.{IsPlan}
-use Rattle.ov_script.specs.Reading.{Gave, IsScript, HasNoStop, Early, Stop, Event, bad_line, passed, whole_lines, ended_lines}
+use Rattle.ov_script.specs.Reading.{Gave, IsScript, HasNoStop, Early, Stop, Event, bad_line, passed, cut, whole_lines, CountsTo}
 use Rattle.ov_script.specs.declared.script.ReadStop.{ReadStop}
 use Rattle.ov_script.specs.declared.script.ReadStop.TheVariants as stop
 use Rattle.ov_report.specs.Summary.{report_text}
@@ -55,11 +56,11 @@ IsStop cause.Memory = ⊥
 
 -- The report of a mode.
 abbrev pub RunsIn : Mode → ℕ → List ℕ → Script → Report → Type 0
-RunsIn Trace first schedule script report = Serial (λ a. a) script first report
-RunsIn Steps first schedule script report = Scheduled (λ a. a) script first schedule report
+RunsIn Trace first schedule script report = Serial (via_of script.routes) script first report
+RunsIn Steps first schedule script report = Scheduled (via_of script.routes) script first schedule report
 
 -- The report is that of the plan's mode: each line to its end in the script's order, or by the plan's
--- schedule. The first packet id of every key is the plan's, and no line gives a route.
+-- schedule. The first packet id of every key is the plan's, and the routes are the script's.
 abbrev pub Runs : RunPlan → Script → Report → Type 0
 Runs plan script report = RunsIn plan.mode plan.first_id plan.schedule script report
 
@@ -133,13 +134,13 @@ CountedRun taken good None = ⊤
 CountedRun taken good (Some report) = good ≡ length (whole_lines taken)
 
 -- How many lines were taken and found good, by the cause: all lines where the script was run, those before
--- a bad one, those that were ended where a read failed or the limit was passed, and none where nothing was
--- read.
+-- a bad one, those that were ended where a read failed, those that were ended before a limit was passed, and
+-- none where nothing was read.
 abbrev pub Counted : List ℕ → ℕ → Option Report → Cause → Type 0
 Counted taken good report cause.Fine = good ≡ length (whole_lines taken)
 Counted taken good report cause.WriteFault = good ≡ length (whole_lines taken)
 Counted taken good report cause.Memory = CountedRun taken good report
 Counted taken good report cause.Usage = good ≡ 0
 Counted taken good report (cause.BadLine n) = n ≡ good + 1
-Counted taken good report (cause.Limit l) = good ≡ length (ended_lines taken)
-Counted taken good report cause.ReadFault = good ≡ length (ended_lines taken)
+Counted taken good report (cause.Limit l) = CountsTo lanes_read taken l good
+Counted taken good report cause.ReadFault = good ≡ length (cut taken).ended

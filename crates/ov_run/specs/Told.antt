@@ -9,7 +9,7 @@ use Rattle.std.specs.declared.io.Error.{Error}
 use Rattle.std.specs.declared.vec.IntoIter.{IntoIter}
 use Rattle.std.specs.declared.vec.Vec.{Vec}
 use Rattle.ov_script.specs.declared.script.Limit.{Limit}
-use Rattle.ov_script.specs.declared.script.Limit.TheVariants.{Bytes}
+use Rattle.ov_script.specs.declared.script.Limit.TheVariants.{LineBytes, Lines, Bytes, Wide}
 use Rattle.ov_run.specs.declared.ended.Cause.{Cause}
 use Rattle.ov_run.specs.declared.ended.Cause.TheVariants as cause
 
@@ -19,7 +19,10 @@ told_line text = codes "ovpn: " ++ text ++ 10 ∷ []
 
 -- The name of a limit.
 abbrev pub limit_name : Limit → List ℕ
+limit_name LineBytes = codes "line-bytes"
+limit_name Lines = codes "lines"
 limit_name Bytes = codes "bytes"
+limit_name Wide = codes "wide"
 
 -- The text of a cause: nothing of a run that ended well, and else one line.
 abbrev pub text_of : Cause → List ℕ

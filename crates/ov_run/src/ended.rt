@@ -2,6 +2,7 @@
 
 ghost use Rattle.std.specs.Prelude.{◌≡◌, None};
 
+use ov_line::Why;
 use ov_model::Report;
 use ov_script::Limit;
 
@@ -32,6 +33,8 @@ pub struct Ended {
     pub read_lines: u64,
     /// The report, where the script was run to its end.
     pub report: Option<Report>,
+    /// Why a line is outside the grammar, where one stopped the run.
+    pub why: Option<Why>,
 }
 
 impl Ended {
@@ -39,12 +42,13 @@ impl Ended {
 
     /// The end of a run that ended before anything was read.
     pub fn unrun(cause: Cause) -> Ended
-        ensures { result ≡ record { cause = cause; read_lines = 0; report = None } }
+        ensures { result ≡ record { cause = cause; read_lines = 0; report = None; why = None } }
     {
         Ended {
             cause,
             read_lines: 0,
             report: None,
+            why: None,
         }
     }
 

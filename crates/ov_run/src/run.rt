@@ -74,6 +74,7 @@ fn ran<K: Sink>(
             cause: Cause::Memory,
             read_lines,
             report: None,
+            why: None,
         };
     };
     let cause = match print_report(alloc, &report, sink) {
@@ -85,6 +86,7 @@ fn ran<K: Sink>(
         cause,
         read_lines,
         report: Some(report),
+        why: None,
     }
 }
 
@@ -158,12 +160,13 @@ pub fn run_serial<S: Source, K: Sink>(
         Err(PlanStop::Usage) => return Ended::unrun(Cause::Usage),
         Err(PlanStop::Memory) => return Ended::unrun(Cause::Memory),
     };
-    let Reading { good, outcome } = read_script(alloc, source, LANES);
+    let Reading { good, why, outcome } = read_script(alloc, source, LANES);
     match outcome {
         Err(stop) => Ended {
             cause: cause_of(stop),
             read_lines: good,
             report: None,
+            why,
         },
         Ok(script) => ran(alloc, plan, script, good, sink),
     }

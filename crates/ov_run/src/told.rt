@@ -5,12 +5,13 @@ ghost use Rattle.std.specs.Io.KnownBytes.{Appends};
 ghost use Rattle.ov_base.specs.Loops.{AppendsPart};
 ghost use Rattle.ov_base.specs.Outside.{Rose};
 ghost use Rattle.ov_run.specs.declared.ended.Cause.TheVariants as cause;
-ghost use Rattle.ov_run.specs.Told.{text_of, told_line};
+ghost use Rattle.ov_run.specs.Told.{limit_name, text_of, told_line};
 
-use crate::ended::Cause;
+use crate::ended::{Cause, Ended};
 use itoa::Buffer;
 use ov_base::{Sink, WriteFault, write_all};
 use ov_script::Limit;
+use std::alloc::Global;
 
 /// Writes the line that tells how a run ended, and nothing where it ended well. A line outside the grammar is
 /// told by its number, from 1. Where a write fails a part of the line is written.
@@ -24,10 +25,34 @@ pub fn tell<K: Sink>(cause: Cause, sink: &mut K) -> Result<(), WriteFault>
         Cause::Fine => Ok(()),
         Cause::Usage => write_all(sink, b"ovpn: usage: ovpn MODE [options]\n"),
         Cause::BadLine(number) => tell_bad_line(number, sink),
-        Cause::Limit(Limit::Bytes) => write_all(sink, b"ovpn: limit bytes\n"),
+        Cause::Limit(limit) => write_all(sink, limit_line(limit)),
         Cause::ReadFault => write_all(sink, b"ovpn: read fault\n"),
         Cause::WriteFault => write_all(sink, b"ovpn: write fault\n"),
         Cause::Memory => write_all(sink, b"ovpn: want of memory\n"),
+    }
+}
+
+/// The line that tells a limit.
+fn limit_line(limit: Limit) -> &'static [u8]
+    ensures { result.now ≡ told_line (codes "limit " ++ limit_name limit) }
+{
+    match limit {
+        Limit::LineBytes => b"ovpn: limit line-bytes\n",
+        Limit::Lines => b"ovpn: limit lines\n",
+        Limit::Bytes => b"ovpn: limit bytes\n",
+        Limit::Wide => b"ovpn: limit wide\n",
+    }
+}
+
+/// Writes a second line where a line is outside the grammar: why it is, from the reading that found it so. For
+/// want of memory nothing is written.
+pub fn tell_why<K: Sink>(alloc: Global, ended: &Ended, sink: &mut K) -> Result<(), WriteFault> {
+    let (Cause::BadLine(number), Some(why)) = (ended.cause, ended.why) else {
+        return Ok(());
+    };
+    match format!(in alloc; "ovpn: line {number} is bad: {why}\n") {
+        Ok(text) => write_all(sink, text.as_bytes()),
+        Err(_) => Ok(()),
     }
 }
 

@@ -1,8 +1,21 @@
--- Which lines pieces say, and where a list of pieces has its first bad one.
-use Rattle.std.proofs.Common.{◌≡◌, ◌∙◌, ℕ, suc, ◌+◌, ◌<◌, ◌==◌, false, List, [], ◌∷◌, ◌++◌, length, refl, sym, ap, subst, append_assoc, append-nil, arith}
+-- Which lines pieces say, and how many of them are wide.
+use Rattle.std.proofs.Common.{◌≡◌, ◌∙◌, ℕ, suc, ◌+◌, ◌<◌, ◌==◌, Bool, true, false, List, [], ◌∷◌, ◌++◌, length, refl, sym, ap, arith, codes}
+use Rattle.std.specs.Prelude.{if◌then◌else◌, filter}
+use Rattle.std.proofs.lemmas.Bool.{eqb-false, eqb-true}
+use Rattle.std.proofs.lemmas.List.{length-append}
+use Rattle.std.proofs.lemmas.List.Elements.{filter-append}
+use Rattle.std.specs.Str.{bytes_eq}
 use Rattle.ov_model.specs.declared.line.Line.{Line}
-use Rattle.ov_line.specs.Grammar.{Says}
-use Rattle.ov_script.specs.Reading.{Cut, cut, line_first, AreLines, AreGood, IsFirstBad, last_line}
+use Rattle.ov_model.specs.declared.line.Deed.{Deed}
+use Rattle.ov_model.specs.declared.line.Deed.TheVariants as deed
+use Rattle.ov_model.specs.declared.netlink.NlOp.{NlOp}
+use Rattle.ov_model.specs.declared.netlink.NlOp.TheVariants as op
+use Rattle.ov_model.specs.Sizes.{Fits}
+use Rattle.std.specs.List.{AllByRecursion}
+use Rattle.ov_line.specs.Grammar.{Says, deed_word, op_word}
+use Rattle.ov_line.proofs.Fitting.{says_fits}
+use Rattle.ov_line.proofs.Unique.{says_one}
+use Rattle.ov_script.specs.Reading.{AreLines, last_line, is_wide, is_wide_deed, is_dump, wide_count}
 
 -- One more piece says one more line.
 pub lines_more : (lanes : ℕ) (pieces : List (List ℕ)) (lines : List Line) (piece : List ℕ) (line : Line) → AreLines lanes pieces lines → Says piece lanes line → AreLines lanes (pieces ++ piece ∷ []) (lines ++ line ∷ [])
@@ -18,83 +31,59 @@ lines_count lanes [] (l ∷ ls) h = absurd h
 lines_count lanes (p ∷ ps) [] h = absurd h
 lines_count lanes (p ∷ ps) (l ∷ ls) h = ap suc (lines_count lanes ps ls h.1)
 
--- Where all pieces say lines, so does each of them.
-pub line_at : (lanes : ℕ) (before : List (List ℕ)) (piece : List ℕ) (after : List (List ℕ)) (lines : List Line) → AreLines lanes (before ++ piece ∷ after) lines → (line : Line) × Says piece lanes line
-line_at lanes [] piece after [] h = absurd h
-line_at lanes [] piece after (l ∷ ls) h = (l, h.0)
-line_at lanes (p ∷ ps) piece after [] h = absurd h
-line_at lanes (p ∷ ps) piece after (l ∷ ls) h = line_at lanes ps piece after ls h.1
+-- All lines of pieces fit.
+pub lines_fit : (lanes : ℕ) (pieces : List (List ℕ)) (lines : List Line) → AreLines lanes pieces lines → AllByRecursion (λ line. Fits line.deed) lines
+lines_fit lanes [] [] are = tt
+lines_fit lanes [] (line ∷ lines) are = absurd are
+lines_fit lanes (piece ∷ pieces) [] are = absurd are
+lines_fit lanes (piece ∷ pieces) (line ∷ lines) are = (says_fits piece lanes line are.0, lines_fit lanes pieces lines are.1)
 
--- Pieces that all say lines have no bad one.
-pub none_bad : (lanes : ℕ) (pieces : List (List ℕ)) (lines : List Line) (n : ℕ) → AreLines lanes pieces lines → ¬ (IsFirstBad lanes pieces n)
-none_bad lanes pieces lines n h bad =
-    let P : List (List ℕ) → Type 0 = λ ps. AreLines lanes ps lines in
-    let found : (line : Line) × Says bad.bad lanes line = line_at lanes bad.before bad.bad bad.after lines (subst P bad.pieces_are h) in
-    bad.not_a_line found.0 found.1
-
--- What stays true while ended lines are read: the lines read are those of the pieces in front of `rest`,
--- behind the lines that there were.
-pub record Kept (lanes : ℕ) (bytes rest : List ℕ) (old lines : List Line) : Type 0 where
-  pub done : List (List ℕ)
-  pub pieces : (cut bytes).ended ≡ done ++ (cut rest).ended
-  pub tail : (cut bytes).rest ≡ (cut rest).rest
-  pub said : (earlier : List (List ℕ)) → AreLines lanes earlier old → AreLines lanes (earlier ++ done) lines
-
-pub kept_start : (lanes : ℕ) (bytes : List ℕ) (lines : List Line) → Kept lanes bytes bytes lines lines
-kept_start lanes bytes lines = record { done = []; pieces = refl; tail = refl; said = λ earlier h. rw (append-nil earlier) h }
-
-pub kept_more : (lanes : ℕ) (bytes rest : List ℕ) (old lines : List Line) (piece next : List ℕ) (line : Line) → Kept lanes bytes rest old lines → cut rest ≡ line_first piece (cut next) → Says piece lanes line → Kept lanes bytes next old (lines ++ line ∷ [])
-kept_more lanes bytes rest old lines piece next line k e s = record {
-  done = k.done ++ piece ∷ [];
-  pieces = k.pieces ∙ ap (λ (c : Cut). k.done ++ c.ended) e ∙ sym (append_assoc k.done (piece ∷ []) (cut next).ended);
-  tail = k.tail ∙ ap (λ (c : Cut). c.rest) e;
-  said = λ earlier h.
-      let P : List (List ℕ) → Type 0 = λ ps. AreLines lanes ps (lines ++ line ∷ []) in
-      subst P (append_assoc earlier k.done (piece ∷ [])) (lines_more lanes (earlier ++ k.done) lines piece line (k.said earlier h) s);
-}
-
-pub kept_bad : (lanes : ℕ) (bytes rest : List ℕ) (old lines : List Line) (piece next : List ℕ) → Kept lanes bytes rest old lines → cut rest ≡ line_first piece (cut next) → ((line : Line) → ¬ (Says piece lanes line)) → (earlier : List (List ℕ)) → AreLines lanes earlier old → IsFirstBad lanes (earlier ++ (cut bytes).ended) (length lines + 1)
-kept_bad lanes bytes rest old lines piece next k e bad earlier h = record {
-  before = earlier ++ k.done;
-  bad = piece;
-  after = (cut next).ended;
-  pieces_are = ap (λ (ps : List (List ℕ)). earlier ++ ps) (k.pieces ∙ ap (λ (c : Cut). k.done ++ c.ended) e) ∙ sym (append_assoc earlier k.done (piece ∷ (cut next).ended));
-  number = ap (λ n. n + 1) (lines_count lanes (earlier ++ k.done) lines (k.said earlier h));
-  good = (lines, k.said earlier h);
-  not_a_line = bad;
-}
-
-pub kept_good : (lanes : ℕ) (bytes rest : List ℕ) (old lines : List Line) → Kept lanes bytes rest old lines → (earlier : List (List ℕ)) → AreLines lanes earlier old → AreGood lanes (earlier ++ (cut bytes).ended) (length lines)
-kept_good lanes bytes rest old lines k earlier h = record {
-  good = earlier ++ k.done;
-  others = (cut rest).ended;
-  pieces_are = ap (λ (ps : List (List ℕ)). earlier ++ ps) k.pieces ∙ sym (append_assoc earlier k.done (cut rest).ended);
-  number = lines_count lanes (earlier ++ k.done) lines (k.said earlier h);
-  all_good = (lines, k.said earlier h);
-}
-
-pub kept_end : (lanes : ℕ) (bytes rest : List ℕ) (old lines : List Line) → Kept lanes bytes rest old lines → cut rest ≡ record { ended = []; rest = rest } → ((earlier : List (List ℕ)) → AreLines lanes earlier old → AreLines lanes (earlier ++ (cut bytes).ended) lines) × (rest ≡ (cut bytes).rest)
-kept_end lanes bytes rest old lines k e =
-    let all : (cut bytes).ended ≡ k.done = k.pieces ∙ ap (λ (c : Cut). k.done ++ c.ended) e ∙ append-nil k.done in (
-      λ earlier h.
-          let P : List (List ℕ) → Type 0 = λ ps. AreLines lanes (earlier ++ ps) lines in
-          subst P (sym all) (k.said earlier h),
-      sym (k.tail ∙ ap (λ (c : Cut). c.rest) e),
-    )
+-- And each is on one of the lanes.
+pub lines_below : (lanes : ℕ) (pieces : List (List ℕ)) (lines : List Line) → AreLines lanes pieces lines → AllByRecursion (λ line. line.lane < lanes) lines
+lines_below lanes [] [] are = tt
+lines_below lanes [] (line ∷ lines) are = absurd are
+lines_below lanes (piece ∷ pieces) [] are = absurd are
+lines_below lanes (piece ∷ pieces) (line ∷ lines) are = (are.0.is_line.below, lines_below lanes pieces lines are.1)
 
 -- A rest of some bytes is one line.
 pub last_is_one : (rest : List ℕ) → 0 < length rest → last_line rest ≡ rest ∷ []
 last_is_one [] h = absurd (omega arith)
 last_is_one (b ∷ bs) h = refl
 
--- With the rest's line the lines are those of the pieces and the rest.
-pub with_last : (lanes : ℕ) (rest : List ℕ) (line : Line) (pieces : List (List ℕ)) (before after : List Line) → 0 < length rest → Says rest lanes line → after ≡ before ++ line ∷ [] → AreLines lanes pieces before → AreLines lanes (pieces ++ last_line rest) after
-with_last lanes rest line pieces before after some s e h =
-    let P : List (List ℕ) → Type 0 = λ last. AreLines lanes (pieces ++ last) after in
-    let Q : List Line → Type 0 = λ ls. AreLines lanes (pieces ++ rest ∷ []) ls in
-    subst P (sym (last_is_one rest some)) (subst Q (sym e) (lines_more lanes pieces before rest line h s))
+-- Bytes that say two lines say wide ones or others.
+pub same_wide : (piece : List ℕ) (lanes : ℕ) (a b : Line) → Says piece lanes a → Says piece lanes b → is_wide a ≡ is_wide b
+same_wide piece lanes a b x y = ap is_wide (says_one piece lanes a b x y)
+
+-- A line in front of others counts where it is wide.
+count_step : (line : Line) (lines : List Line) (t : Bool) → length (if t then line ∷ filter is_wide lines else filter is_wide lines) ≡ (if t then suc (wide_count lines) else wide_count lines)
+count_step line lines true = refl
+count_step line lines false = refl
+
+-- So the pieces say how many of their lines are wide.
+pub same_count : (lanes : ℕ) (pieces : List (List ℕ)) (a b : List Line) → AreLines lanes pieces a → AreLines lanes pieces b → wide_count a ≡ wide_count b
+same_count lanes [] [] [] x y = refl
+same_count lanes [] [] (m ∷ ms) x y = absurd y
+same_count lanes [] (l ∷ ls) ms x y = absurd x
+same_count lanes (p ∷ ps) [] ms x y = absurd x
+same_count lanes (p ∷ ps) (l ∷ ls) [] x y = absurd y
+same_count lanes (p ∷ ps) (l ∷ ls) (m ∷ ms) x y =
+    let first : is_wide l ≡ is_wide m = same_wide p lanes l m x.0 y.0 in
+    let others : wide_count ls ≡ wide_count ms = same_count lanes ps ls ms x.1 y.1 in
+    count_step l ls (is_wide l) ∙ ap (λ (t : Bool). if t then suc (wide_count ls) else wide_count ls) first ∙ ap (λ (n : ℕ). if is_wide m then suc n else n) others ∙ sym (count_step m ms (is_wide m))
+
+-- One more line counts where it is wide.
+counted : (line : Line) (t : Bool) (n : ℕ) → n + length (if t then line ∷ [] else []) ≡ (if t then n + 1 else n)
+counted line true n = refl
+counted line false n = omega arith
+
+pub count_more : (lines : List Line) (line : Line) → wide_count (lines ++ line ∷ []) ≡ (if is_wide line then wide_count lines + 1 else wide_count lines)
+count_more lines line = ap length (filter-append is_wide lines (line ∷ [])) ∙ length-append (filter is_wide lines) (filter is_wide (line ∷ [])) ∙ counted line (is_wide line) (wide_count lines)
 
 -- What the test for emptiness tells.
-pub not_empty : (rest : List ℕ) → false ≡ (length rest == 0) → 0 < length rest
-not_empty [] h = absurd (cc h)
-not_empty (b ∷ bs) h = omega arith
+pub nothing : (rest : List ℕ) (n : ℕ) → n ≡ length rest → true ≡ (n == 0) → rest ≡ []
+nothing [] n is h = refl
+nothing (b ∷ bs) n is h = let zero : n ≡ 0 = eqb-true n 0 (sym h) in absurd (omega arith)
+
+pub not_empty : (rest : List ℕ) (n : ℕ) → n ≡ length rest → false ≡ (n == 0) → 0 < length rest
+not_empty [] n is h = absurd (eqb-false n 0 (sym h) is)
+not_empty (b ∷ bs) n is h = omega arith

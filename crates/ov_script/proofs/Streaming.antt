@@ -1,68 +1,29 @@
 -- A stream whose lines are read piece by piece.
-use Rattle.std.proofs.Common.{◌≡◌, ◌∙◌, ℕ, ◌+◌, ◌<◌, ◌≤◌, inl, inr, min, List, [], ◌∷◌, ◌++◌, length, take, refl, sym, ap, subst, length-append, arith, Option, Ok, Err}
-use Rattle.std.specs.Prelude.{⊤}
+use Rattle.std.proofs.Common.{◌≡◌, ◌∙◌, ℕ, ◌+◌, ◌-◌, ◌<◌, ◌≤◌, inl, inr, min, List, [], ◌++◌, length, take, drop, refl, sym, ap, subst, append_assoc, length-append, arith, Option, Ok, Err}
+use Rattle.std.specs.Prelude.{⊤, Result, OnOk, OnErr, IfErr}
 use Rattle.std.specs.Io.KnownBytes.{Consumes, Keeps, IsAtEnd}
 use Rattle.std.proofs.KnownBytes.{Consumes-trans, Consumes-kept}
-use Rattle.std.proofs.lemmas.List.{length-take-le, length-take, take-take, take_all, append-nil}
+use Rattle.std.proofs.lemmas.List.{length-take-le, length-take, length-drop, take-take, take_all, take-append-drop}
 use Rattle.std.proofs.lemmas.Bool.{cases_lt}
 use Rattle.std.proofs.Math.Nat.{min-eq_left, min-eq_right, min-le_left}
 use Rattle.std.proofs.Math.Seq.{take-append-add}
 use Rattle.ov_base.specs.Outside.{Rose}
 use Rattle.ov_model.specs.declared.line.Line.{Line}
-use Rattle.ov_script.specs.Reading.{Cut, cut, most_bytes, ended_lines, whole_lines, counted_lines, last_line, AreLines, AreGood, IsFirstBad, Reads, Judges, HasRead, line_stop}
-use Rattle.ov_line.specs.Grammar.{Says}
-use Rattle.ov_line.specs.declared.line.LineStop.{LineStop}
-use Rattle.ov_line.specs.declared.line.LineStop.TheVariants as line
+use Rattle.ov_script.specs.Reading.{cut, most_bytes, most_piece, ended_lines, whole_lines, AreLines, AreGood, bad_line, passed}
+use Rattle.ov_script.specs.Steps.{Reads, Refuses, IsLast, Halted, StopsAt, LastStops, Judges, HasRead}
 use Rattle.ov_script.specs.declared.script.ReadStop.{ReadStop}
 use Rattle.ov_script.specs.declared.script.ReadStop.TheVariants as stop
 use Rattle.ov_script.specs.declared.script.Limit.TheVariants.{Bytes}
-use Rattle.ov_script.proofs.Lines.{lines_count}
-use Rattle.ov_script.proofs.Judging.{ended_whole, counted_whole, good_counted}
-use Rattle.ov_script.proofs.Cutting.{cut_on, cut_held}
-
--- A piece without a line end goes to what follows the last one.
-pub piece_held : (lanes : ℕ) (before piece : List ℕ) (lines : List Line) (rest new : List ℕ) → Reads lanes before lines rest → cut piece ≡ record { ended = []; rest = piece } → new ≡ rest ++ piece → Reads lanes (before ++ piece) lines new
-piece_held lanes before piece lines rest new r none is =
-    let all = cut_held before piece none in record {
-      said = subst (λ (ps : List (List ℕ)). AreLines lanes ps lines) (sym (ap (λ (c : Cut). c.ended) all)) r.said;
-      rest_is = is ∙ ap (λ (b : List ℕ). b ++ piece) r.rest_is ∙ sym (ap (λ (c : Cut). c.rest) all);
-    }
-
--- The lines that a piece ends are those of what was left and the piece.
-pub ended_on : (before piece rest now : List ℕ) → rest ≡ (cut before).rest → now ≡ rest ++ piece → (cut (before ++ piece)).ended ≡ (cut before).ended ++ (cut now).ended
-ended_on before piece rest now left is = ap (λ (c : Cut). c.ended) (cut_on before piece) ∙ ap (λ (b : List ℕ). (cut before).ended ++ (cut b).ended) (ap (λ (b : List ℕ). b ++ piece) (sym left) ∙ sym is)
-
--- The lines before a piece are good whatever it has.
-pub good_before : (lanes : ℕ) (before piece : List ℕ) (lines : List Line) (rest : List ℕ) → Reads lanes before lines rest → AreGood lanes (cut (before ++ piece)).ended (length lines)
-good_before lanes before piece lines rest r = record {
-  good = (cut before).ended;
-  others = (cut (rest ++ piece)).ended;
-  pieces_are = ended_on before piece rest (rest ++ piece) r.rest_is refl;
-  number = lines_count lanes (cut before).ended lines r.said;
-  all_good = (lines, r.said);
-}
-
--- What holds of the lines that were ended before and those of the rest and the piece holds of all ended lines.
-pub of_piece : (P : List (List ℕ) → Type 0) (lanes : ℕ) (before piece : List ℕ) (lines : List Line) (rest now : List ℕ) → Reads lanes before lines rest → now ≡ rest ++ piece → ((pieces : List (List ℕ)) → AreLines lanes pieces lines → P (pieces ++ (cut now).ended)) → P (cut (before ++ piece)).ended
-of_piece P lanes before piece lines rest now r is each = subst P (sym (ended_on before piece rest now r.rest_is is)) (each (cut before).ended r.said)
-
--- What follows the last line end of the piece.
-pub rest_on : (before piece rest now : List ℕ) → rest ≡ (cut before).rest → now ≡ rest ++ piece → (cut now).rest ≡ (cut (before ++ piece)).rest
-rest_on before piece rest now left is = ap (λ (b : List ℕ). (cut b).rest) (is ∙ ap (λ (b : List ℕ). b ++ piece) left) ∙ sym (ap (λ (c : Cut). c.rest) (cut_on before piece))
+use Rattle.ov_script.proofs.Goods.{ended_whole, counted_whole, good_counted, all_good, good_halted}
+use Rattle.ov_script.proofs.Halting.{early_longer, byte_too_many}
+use Rattle.ov_script.proofs.Last.{last_read, last_refused}
 
 -- What is known between two pieces: the source gave these bytes so far, and so many may still come.
-pub record Seen (lanes : ℕ) (before now : Option (List ℕ)) (room : ℕ) (lines : List Line) (rest : List ℕ) : Type 0 where
+pub record Seen (lanes : ℕ) (before now : Option (List ℕ)) (room : ℕ) (lines : List Line) (wide : ℕ) (rest : List ℕ) : Type 0 where
   pub bytes : List ℕ
   pub taken : Consumes before now bytes
   pub fits : length bytes + room ≡ most_bytes
-  pub reads : Reads lanes bytes lines rest
-
--- Where pieces are all good, so many are.
-all_good : (lanes : ℕ) (pieces : List (List ℕ)) (lines : List Line) → AreLines lanes pieces lines → AreGood lanes pieces (length lines)
-all_good lanes pieces lines said = record { good = pieces; others = []; pieces_are = sym (append-nil pieces); number = lines_count lanes pieces lines said; all_good = (lines, said) }
-
-all_of_ended : (lanes : ℕ) (bytes : List ℕ) (lines : List Line) → AreLines lanes (ended_lines bytes) lines → AreGood lanes (counted_lines bytes) (length lines)
-all_of_ended lanes bytes lines said = good_counted lanes bytes (length lines) (all_good lanes (ended_lines bytes) lines said)
+  pub reads : Reads lanes bytes lines wide rest
 
 -- The front of a read's bytes that may still count.
 fronts : (room count : ℕ) (buffer : List ℕ) → take room (take count buffer) ≡ take (min count room) buffer
@@ -73,91 +34,155 @@ fronts room count buffer = elim (cases_lt room count) as (λ _. take room (take 
       take_all room (take count buffer) short ∙ ap (λ (n : ℕ). take n buffer) (sym (min-eq_left more))
 ]
 
--- Of what came the lines that end within the limit are those of what came before and of the front that may still count.
-front_ended : (lanes : ℕ) (before mid : Option (List ℕ)) (room : ℕ) (lines : List Line) (rest : List ℕ) (seen : Seen lanes before mid room lines rest) (count : ℕ) (buffer front : List ℕ) → front ≡ take (min count room) buffer
-    → ended_lines (seen.bytes ++ take count buffer) ≡ (cut (seen.bytes ++ front)).ended
-front_ended lanes before mid room lines rest seen count buffer front is =
+-- The read's bytes are that front and those behind it.
+whole_read : (room count : ℕ) (buffer front : List ℕ) → front ≡ take (min count room) buffer → take count buffer ≡ front ++ drop room (take count buffer)
+whole_read room count buffer front is = sym (take-append-drop room (take count buffer)) ∙ ap (λ (f : List ℕ). f ++ drop room (take count buffer)) (fronts room count buffer ∙ sym is)
+
+-- So the lines that end within the limit are those of what came before and of that front.
+front_ended : (room : ℕ) (bytes : List ℕ) → length bytes + room ≡ most_bytes → (count : ℕ) (buffer front : List ℕ) → front ≡ take (min count room) buffer → ended_lines (bytes ++ take count buffer) ≡ (cut (bytes ++ front)).ended
+front_ended room bytes fits count buffer front is =
     let within : take room (take count buffer) ≡ front = fronts room count buffer ∙ sym is in
-    ap (λ (b : List ℕ). (cut b).ended) (ap (λ (n : ℕ). take n (seen.bytes ++ take count buffer)) (sym seen.fits) ∙ take-append-add seen.bytes (take count buffer) room ∙ ap (λ (b : List ℕ). seen.bytes ++ b) within)
+    ap (λ (b : List ℕ). (cut b).ended) (ap (λ (n : ℕ). take n (bytes ++ take count buffer)) (sym fits) ∙ take-append-add bytes (take count buffer) room ∙ ap (λ (b : List ℕ). bytes ++ b) within)
 
-module _ (lanes : ℕ) (before mid now : Option (List ℕ)) (from to room : ℕ) (lines : List Line) (rest : List ℕ) where
-  judged_bad : (s : LineStop) (bytes : List ℕ) (new : List Line) → (s ≡ line.Bad → IsFirstBad lanes (ended_lines bytes) (length new + 1)) → Judges lanes now from to bytes new (Err (line_stop s (length new)))
-  judged_bad line.Bad bytes new bad = (refl, inl (bad refl))
-  judged_bad line.Memory bytes new bad = tt
+front_short : (room count : ℕ) (buffer front : List ℕ) → front ≡ take (min count room) buffer → length front ≤ room
+front_short room count buffer front is =
+    omega (arith, ap length (is ∙ sym (fronts room count buffer)) ∙ length-take room (take count buffer), min-le_left room (length (take count buffer)))
 
-  -- A line of a piece that wasn't read.
-  pub piece_stopped : Seen lanes before mid room lines rest → (count : ℕ) (buffer front : List ℕ) (new : List Line) (s : LineStop) (r : ReadStop) → Consumes mid now (take count buffer) → front ≡ take (min count room) buffer
-      → (s ≡ line.Bad → (b : List ℕ) → Reads lanes b lines rest → IsFirstBad lanes (cut (b ++ front)).ended (length new + 1)) → ((b : List ℕ) → Reads lanes b lines rest → AreGood lanes (cut (b ++ front)).ended (length new))
-      → r ≡ line_stop s (length new) → HasRead lanes before now from to new (Err r)
-  piece_stopped seen count buffer front new s r came is bad good stops =
-      let bytes : List ℕ = seen.bytes ++ take count buffer in
-      let ended : ended_lines bytes ≡ (cut (seen.bytes ++ front)).ended = front_ended lanes before mid room lines rest seen count buffer front is in record {
-        bytes = bytes;
+-- What halts reading halts it with more bytes behind.
+stops_longer : (lanes : ℕ) (bytes more front : List ℕ) (s : ReadStop) → StopsAt lanes bytes front s → StopsAt lanes (bytes ++ more) front s
+stops_longer lanes bytes more front (stop.Bad n) h = early_longer lanes bytes more front (bad_line n) h
+stops_longer lanes bytes more front (stop.Limit limit) h = early_longer lanes bytes more front (passed limit) h
+stops_longer lanes bytes more front stop.Read h = h
+stops_longer lanes bytes more front stop.Memory h = tt
+
+halted_longer : (lanes : ℕ) (bytes more : List ℕ) (lines : List Line) (s : ReadStop) → Halted lanes bytes lines s → Halted lanes (bytes ++ more) lines s
+halted_longer lanes bytes more lines s h = record {
+  front = h.front;
+  behind = h.behind ++ more;
+  bytes_are = ap (λ (b : List ℕ). b ++ more) h.bytes_are ∙ append_assoc h.front h.behind more;
+  said = h.said;
+  stops = stops_longer lanes bytes more h.front s h.stops;
+}
+
+judged_halted : (lanes : ℕ) (now : Option (List ℕ)) (from to : ℕ) (bytes : List ℕ) (lines : List Line) (s : ReadStop) → Halted lanes bytes lines s → Judges lanes now from to bytes lines (Err s)
+judged_halted lanes now from to bytes lines (stop.Bad n) h = inl h
+judged_halted lanes now from to bytes lines (stop.Limit limit) h = inl h
+judged_halted lanes now from to bytes lines stop.Read h = absurd h.stops
+judged_halted lanes now from to bytes lines stop.Memory h = inl h
+
+judged_last : (lanes : ℕ) (now : Option (List ℕ)) (from to : ℕ) (bytes : List ℕ) (lines : List Line) (s : ReadStop) → IsAtEnd now → length bytes ≤ most_bytes → AreLines lanes (cut bytes).ended lines → LastStops lanes bytes s → Judges lanes now from to bytes lines (Err s)
+judged_last lanes now from to bytes lines (stop.Bad n) ended short said h = inr (ended, short, said, h)
+judged_last lanes now from to bytes lines (stop.Limit limit) ended short said h = inr (ended, short, said, h)
+judged_last lanes now from to bytes lines stop.Read ended short said h = absurd h
+judged_last lanes now from to bytes lines stop.Memory ended short said h = inr (ended, short, said, h)
+
+-- Before anything was read.
+pub nothing_read : (lanes : ℕ) (left : Option (List ℕ)) (faults : ℕ) (lines : List Line) (wide : ℕ) (rest : List ℕ) → Consumes left left [] → Reads lanes [] lines wide rest → HasRead lanes left left faults faults lines (Err stop.Memory)
+nothing_read lanes left faults lines wide rest none reads = record {
+  bytes = [];
+  taken = none;
+  most = omega arith;
+  judged = inl (record { front = []; behind = []; bytes_are = refl; said = reads.said; stops = tt });
+  good = good_counted lanes [] (length lines) (subst (λ (ps : List (List ℕ)). AreGood lanes ps (length lines)) (sym (ended_whole [] (omega arith))) (all_good lanes [] lines reads.said));
+}
+
+module _ (lanes : ℕ) (before mid now : Option (List ℕ)) (from to room : ℕ) (lines : List Line) (wide : ℕ) (rest : List ℕ) (seen : Seen lanes before mid room lines wide rest) where
+  -- What came with a read: the bytes so far, with the front that may still count, and those behind it.
+  came_whole : (count : ℕ) (buffer front : List ℕ) → front ≡ take (min count room) buffer → seen.bytes ++ take count buffer ≡ (seen.bytes ++ front) ++ drop room (take count buffer)
+  came_whole count buffer front is = ap (λ (b : List ℕ). seen.bytes ++ b) (whole_read room count buffer front is) ∙ sym (append_assoc seen.bytes front (drop room (take count buffer)))
+
+  front_fits : (count : ℕ) (buffer front : List ℕ) → front ≡ take (min count room) buffer → length (seen.bytes ++ front) ≤ most_bytes
+  front_fits count buffer front is = omega (arith, length-append seen.bytes front, front_short room count buffer front is, seen.fits)
+
+  came_most : (count : ℕ) (buffer : List ℕ) → count ≤ length buffer → length buffer ≤ most_piece → length (seen.bytes ++ take count buffer) ≤ most_bytes + most_piece
+  came_most count buffer within piece = omega (arith, length-append seen.bytes (take count buffer), length-take-le count buffer within, seen.fits)
+
+  -- Reading halted at an event in the piece.
+  pub piece_halted : (count : ℕ) (buffer front : List ℕ) (new : List Line) (s : ReadStop) → Consumes mid now (take count buffer) → front ≡ take (min count room) buffer → count ≤ length buffer → length buffer ≤ most_piece
+      → ((b : List ℕ) → Reads lanes b lines wide rest → length (b ++ front) ≤ most_bytes → Halted lanes (b ++ front) new s) → HasRead lanes before now from to new (Err s)
+  piece_halted count buffer front new s came is within piece halts =
+      let halted : Halted lanes (seen.bytes ++ front) new s = halts seen.bytes seen.reads (front_fits count buffer front is) in record {
+        bytes = seen.bytes ++ take count buffer;
         taken = Consumes-trans before mid now seen.bytes (take count buffer) seen.taken came;
-        judged = subst (λ (w : ReadStop). Judges lanes now from to bytes new (Err w)) (sym stops) (judged_bad s bytes new (λ e. subst (λ (ps : List (List ℕ)). IsFirstBad lanes ps (length new + 1)) (sym ended) (bad e seen.bytes seen.reads)));
-        good = good_counted lanes bytes (length new) (subst (λ (ps : List (List ℕ)). AreGood lanes ps (length new)) (sym ended) (good seen.bytes seen.reads));
+        most = came_most count buffer within piece;
+        judged = judged_halted lanes now from to (seen.bytes ++ take count buffer) new s
+            (subst (λ (b : List ℕ). Halted lanes b new s) (sym (came_whole count buffer front is)) (halted_longer lanes (seen.bytes ++ front) (drop room (take count buffer)) new s halted));
+        good = good_counted lanes (seen.bytes ++ take count buffer) (length new)
+            (subst (λ (ps : List (List ℕ)). AreGood lanes ps (length new)) (sym (front_ended room seen.bytes seen.fits count buffer front is)) (good_halted lanes (seen.bytes ++ front) new s halted));
       }
 
   -- More came than may.
-  pub piece_past : Seen lanes before mid room lines rest → (count : ℕ) (buffer front : List ℕ) (new : List Line) → Consumes mid now (take count buffer) → front ≡ take (min count room) buffer → count ≤ length buffer → room < count
-      → ((b : List ℕ) → Reads lanes b lines rest → (left : List ℕ) × Reads lanes (b ++ front) new left) → HasRead lanes before now from to new (Err (stop.Limit Bytes))
-  piece_past seen count buffer front new came is within past reads =
-      let bytes : List ℕ = seen.bytes ++ take count buffer in
-      let ended : ended_lines bytes ≡ (cut (seen.bytes ++ front)).ended = front_ended lanes before mid room lines rest seen count buffer front is in
-      let said : AreLines lanes (ended_lines bytes) new = subst (λ (ps : List (List ℕ)). AreLines lanes ps new) (sym ended) (reads seen.bytes seen.reads).1.said in
-      let size : length bytes ≡ length seen.bytes + count = length-append seen.bytes (take count buffer) ∙ ap (λ (n : ℕ). length seen.bytes + n) (length-take-le count buffer within) in record {
-        bytes = bytes;
+  pub piece_past : (count : ℕ) (buffer front : List ℕ) (new : List Line) (new_wide : ℕ) (new_rest : List ℕ) → Consumes mid now (take count buffer) → front ≡ take (min count room) buffer → count ≤ length buffer → length buffer ≤ most_piece → room < count
+      → ((b : List ℕ) → Reads lanes b lines wide rest → length (b ++ front) ≤ most_bytes → Reads lanes (b ++ front) new new_wide new_rest) → HasRead lanes before now from to new (Err (stop.Limit Bytes))
+  piece_past count buffer front new new_wide new_rest came is within piece past reads =
+      let known : Reads lanes (seen.bytes ++ front) new new_wide new_rest = reads seen.bytes seen.reads (front_fits count buffer front is) in
+      let size : length (take count buffer) ≡ count = length-take-le count buffer within in
+      let full : length front ≡ room = ap length (is ∙ sym (fronts room count buffer)) ∙ length-take-le room (take count buffer) (omega (arith, size, past)) in
+      let all : length (seen.bytes ++ front) ≡ most_bytes = length-append seen.bytes front ∙ ap (λ (n : ℕ). length seen.bytes + n) full ∙ seen.fits in
+      let some : 0 < length (drop room (take count buffer)) = omega (arith, length-drop room (take count buffer), size, past) in
+      let halted : Halted lanes ((seen.bytes ++ front) ++ drop room (take count buffer)) new (stop.Limit Bytes) = record {
+        front = seen.bytes ++ front;
+        behind = drop room (take count buffer);
+        bytes_are = refl;
+        said = known.said;
+        stops = byte_too_many lanes (seen.bytes ++ front) new new_wide new_rest known (drop room (take count buffer)) some all;
+      } in record {
+        bytes = seen.bytes ++ take count buffer;
         taken = Consumes-trans before mid now seen.bytes (take count buffer) seen.taken came;
-        judged = (omega (arith, size, seen.fits, past), said);
-        good = all_of_ended lanes bytes new said;
+        most = came_most count buffer within piece;
+        judged = inl (subst (λ (b : List ℕ). Halted lanes b new (stop.Limit Bytes)) (sym (came_whole count buffer front is)) halted);
+        good = good_counted lanes (seen.bytes ++ take count buffer) (length new)
+            (subst (λ (ps : List (List ℕ)). AreGood lanes ps (length new)) (sym (front_ended room seen.bytes seen.fits count buffer front is)) (all_good lanes (cut (seen.bytes ++ front)).ended new known.said));
       }
 
-  -- Nothing more came, for the read failed.
-  pub read_failed : Seen lanes before mid room lines rest → Keeps mid now → Rose from to → HasRead lanes before now from to lines (Err stop.Read)
-  read_failed seen keeps rose =
-      let short : length seen.bytes ≤ most_bytes = omega (arith, seen.fits) in
-      let said : AreLines lanes (ended_lines seen.bytes) lines = subst (λ (ps : List (List ℕ)). AreLines lanes ps lines) (sym (ended_whole seen.bytes short)) seen.reads.said in record {
+  -- More may still come.
+  pub piece_read : (count : ℕ) (buffer front : List ℕ) (new : List Line) (new_wide : ℕ) (new_rest : List ℕ) → Consumes mid now (take count buffer) → front ≡ take (min count room) buffer → count ≤ length buffer → count ≤ room
+      → ((b : List ℕ) → Reads lanes b lines wide rest → length (b ++ front) ≤ most_bytes → Reads lanes (b ++ front) new new_wide new_rest) → Seen lanes before now (room - count) new new_wide new_rest
+  piece_read count buffer front new new_wide new_rest came is within enough reads =
+      let same : front ≡ take count buffer = is ∙ ap (λ (n : ℕ). take n buffer) (min-eq_left enough) in record {
+        bytes = seen.bytes ++ take count buffer;
+        taken = Consumes-trans before mid now seen.bytes (take count buffer) seen.taken came;
+        fits = omega (arith, length-append seen.bytes (take count buffer), length-take-le count buffer within, seen.fits, enough);
+        reads = subst (λ (f : List ℕ). Reads lanes (seen.bytes ++ f) new new_wide new_rest) same (reads seen.bytes seen.reads (front_fits count buffer front is));
+      }
+
+  -- Nothing more came: the bytes so far are all, and short.
+  all_short : length seen.bytes ≤ most_bytes
+  all_short = omega (arith, seen.fits)
+
+  good_ended : AreGood lanes (ended_lines seen.bytes) (length lines)
+  good_ended = subst (λ (ps : List (List ℕ)). AreGood lanes ps (length lines)) (sym (ended_whole seen.bytes all_short)) (all_good lanes (cut seen.bytes).ended lines seen.reads.said)
+
+  -- For the read failed.
+  pub read_failed : Keeps mid now → Rose from to → HasRead lanes before now from to lines (Err stop.Read)
+  read_failed keeps rose = record {
+    bytes = seen.bytes;
+    taken = Consumes-kept before mid now seen.bytes seen.taken keeps;
+    most = omega (arith, all_short);
+    judged = (rose, all_short, seen.reads.said, seen.reads.quiet);
+    good = good_counted lanes seen.bytes (length lines) good_ended;
+  }
+
+  -- For the source is at its end.
+  pub read_whole : (new : List Line) (new_wide : ℕ) (u : ⊤) → Keeps mid now → IsAtEnd now → IsLast lanes lines new wide new_wide rest → HasRead lanes before now from to new (Ok u)
+  read_whole new new_wide u keeps ended last =
+      let known = last_read lanes seen.bytes lines wide rest seen.reads new new_wide last in record {
         bytes = seen.bytes;
         taken = Consumes-kept before mid now seen.bytes seen.taken keeps;
-        judged = (rose, short, said);
-        good = all_of_ended lanes seen.bytes lines said;
+        most = omega (arith, all_short);
+        judged = (ended, all_short, known.0, known.1);
+        good = subst (λ (ps : List (List ℕ)). AreGood lanes ps (length new)) (sym (counted_whole seen.bytes all_short)) (all_good lanes (whole_lines seen.bytes) new known.0);
       }
 
-  -- The source is at its end, and the last line, if there is one, was read.
-  pub read_whole : Seen lanes before mid room lines rest → (left : List ℕ) (new : List Line) (u : ⊤) → Keeps mid now → IsAtEnd now → left ≡ rest → ((pieces : List (List ℕ)) → AreLines lanes pieces lines → AreLines lanes (pieces ++ last_line left) new) → HasRead lanes before now from to new (Ok u)
-  read_whole seen left new u keeps ended is reads =
-      let short : length seen.bytes ≤ most_bytes = omega (arith, seen.fits) in
-      let said : AreLines lanes (whole_lines seen.bytes) new = subst (λ (r : List ℕ). AreLines lanes ((cut seen.bytes).ended ++ last_line r) new) (is ∙ seen.reads.rest_is) (reads (cut seen.bytes).ended seen.reads.said) in record {
-        bytes = seen.bytes;
-        taken = Consumes-kept before mid now seen.bytes seen.taken keeps;
-        judged = ((ended, short), said);
-        good = subst (λ (ps : List (List ℕ)). AreGood lanes ps (length new)) (sym (counted_whole seen.bytes short))
-            (all_good lanes (whole_lines seen.bytes) new said);
-      }
+  last_halted : (new : List Line) (s : ReadStop) → Keeps mid now → IsAtEnd now → new ≡ lines → 0 < length rest → Refuses lanes rest lines wide s → HasRead lanes before now from to new (Err s)
+  last_halted new s keeps ended same some why = record {
+    bytes = seen.bytes;
+    taken = Consumes-kept before mid now seen.bytes seen.taken keeps;
+    most = omega (arith, all_short);
+    judged = judged_last lanes now from to seen.bytes new s ended all_short (subst (λ (ls : List Line). AreLines lanes (cut seen.bytes).ended ls) (sym same) seen.reads.said) (last_refused lanes seen.bytes lines wide rest seen.reads s some why);
+    good = good_counted lanes seen.bytes (length new) (subst (λ (ls : List Line). AreGood lanes (ended_lines seen.bytes) (length ls)) (sym same) good_ended);
+  }
 
-  judged_last : (s : LineStop) (left : List ℕ) (new : List Line) → IsAtEnd now → left ≡ rest → new ≡ lines → (s ≡ line.Bad → (last_line left ≡ left ∷ []) × ((l : Line) → ¬ (Says left lanes l))) → (seen : Seen lanes before mid room lines rest) → Judges lanes now from to seen.bytes new (Err (line_stop s (length new)))
-  judged_last line.Memory left new ended is same bad seen = tt
-  judged_last line.Bad left new ended is same bad seen =
-      let short : length seen.bytes ≤ most_bytes = omega (arith, seen.fits) in
-      let count : length new ≡ length (cut seen.bytes).ended = ap length same ∙ lines_count lanes (cut seen.bytes).ended lines seen.reads.said in
-      let first : IsFirstBad lanes ((cut seen.bytes).ended ++ last_line left) (length new + 1) = record {
-        before = (cut seen.bytes).ended;
-        bad = left;
-        after = [];
-        pieces_are = ap (λ (l : List (List ℕ)). (cut seen.bytes).ended ++ l) (bad refl).0;
-        number = ap (λ (k : ℕ). k + 1) count;
-        good = (lines, seen.reads.said);
-        not_a_line = (bad refl).1;
-      } in
-      (refl, inr ((ended, short), subst (λ (r : List ℕ). IsFirstBad lanes ((cut seen.bytes).ended ++ last_line r) (length new + 1)) (is ∙ seen.reads.rest_is) first))
-
-  -- The last line wasn't read.
-  pub last_stopped : Seen lanes before mid room lines rest → (left : List ℕ) (new : List Line) (s : LineStop) (r : ReadStop) → Keeps mid now → IsAtEnd now → left ≡ rest → new ≡ lines → (s ≡ line.Bad → (last_line left ≡ left ∷ []) × ((l : Line) → ¬ (Says left lanes l))) → r ≡ line_stop s (length new) → HasRead lanes before now from to new (Err r)
-  last_stopped seen left new s r keeps ended is same bad stops =
-      let short : length seen.bytes ≤ most_bytes = omega (arith, seen.fits) in
-      let said : AreLines lanes (ended_lines seen.bytes) new = subst (λ (ls : List Line). AreLines lanes (ended_lines seen.bytes) ls) (sym same) (subst (λ (ps : List (List ℕ)). AreLines lanes ps lines) (sym (ended_whole seen.bytes short)) seen.reads.said) in record {
-        bytes = seen.bytes;
-        taken = Consumes-kept before mid now seen.bytes seen.taken keeps;
-        judged = subst (λ (w : ReadStop). Judges lanes now from to seen.bytes new (Err w)) (sym stops) (judged_last s left new ended is same bad seen);
-        good = all_of_ended lanes seen.bytes new said;
-      }
+  pub finished : (new : List Line) (new_wide : ℕ) (r : Result ⊤ ReadStop) → Keeps mid now → IsAtEnd now → OnOk r (IsLast lanes lines new wide new_wide rest) → OnErr r (new ≡ lines) → IfErr r (λ s. (0 < length rest) × Refuses lanes rest lines wide s) → HasRead lanes before now from to new r
+  finished new new_wide (Ok u) keeps ended last same refused = read_whole new new_wide u keeps ended last
+  finished new new_wide (Err s) keeps ended last same refused = last_halted new s keeps ended same refused.0 refused.1

@@ -1,15 +1,17 @@
 //! The script of a source: its bytes, read piece by piece, cut into lines, each read once.
 
-ghost use Rattle.std.specs.Prelude.{◌≡◌, ◌≢◌, ◌<◌, ◌≤◌, ◌⊎◌, ℕ, List, [], Some, length, IfOk, IfErr, OnOk};
+ghost use Rattle.std.specs.Prelude.{◌≡◌, ◌≢◌, ◌+◌, ◌<◌, ◌≤◌, ◌⊎◌, ℕ, List, [], Some, length, IfOk, IfErr, OnOk};
 ghost use Rattle.std.specs.List.{AllByRecursion};
 ghost use Rattle.std.specs.Io.KnownBytes.{IsAtEnd};
 ghost use Rattle.ov_base.specs.Outside.{Rose};
 ghost use Rattle.ov_model.specs.Sizes.{Fits};
 ghost use Rattle.ov_script.specs.Reading as spec;
+ghost use Rattle.ov_script.specs.Steps as steps;
 
-use crate::pieces::{read_last, read_piece};
+use crate::good::GoodLines;
+use crate::pieces::Pieces;
 use ov_base::{Got, ListOf, Source};
-use ov_line::LineStop;
+use ov_line::Why;
 use ov_model::{Line, Script};
 use std::alloc::{AllocError, Global};
 use thiserror::Error;
@@ -23,8 +25,14 @@ const PIECE: usize = 65_536;
 /// A limit that a script passed.
 #[derive(Clone, Copy, Debug, PartialEq, Eq)]
 pub enum Limit {
+    /// A line has more than `MOST_LINE_BYTES` bytes.
+    LineBytes,
+    /// The script has more than `MOST_LINES` lines.
+    Lines,
     /// It has more than `MOST_BYTES` bytes.
     Bytes,
+    /// It has more than `MOST_WIDE` lines that are answered by all peers.
+    Wide,
 }
 
 /// Why a source gave no script.
@@ -49,15 +57,19 @@ pub enum ReadStop {
 pub struct Reading {
     /// How many whole lines were taken and found good.
     pub good: u64,
+    /// Why the line that stopped it is outside the grammar, where one did.
+    pub why: Option<Why>,
     /// The script, or why there is none.
     pub outcome: Result<Script, ReadStop>,
 }
 
-/// Reads `source` piece by piece, to its end or to the piece in which it gives more than `MOST_BYTES` bytes,
-/// and its lines in order, each once, on `lanes` lanes, before the next piece. A line outside the grammar is
-/// `Bad`, and comes before `Limit` and `Read` where it was ended; `Limit` comes where there are too many
-/// bytes; `Read` only where a read failed, and with every other answer none did. Want of memory alone is
-/// free. A source that tells what it has left tells what it gave, and a script comes only from its end.
+/// Reads `source` piece by piece, to its end or to the piece in which the first event comes that stops it from
+/// being a script, and its lines in order, each once, on `lanes` lanes, before the next piece. The bytes are
+/// taken in order. One byte gives `Bytes` where there are more than `MOST_BYTES`, else `Lines` where it begins
+/// a line past `MOST_LINES`, else `LineBytes` where its line has more than `MOST_LINE_BYTES`; the end of a line
+/// gives `Bad` where it is outside the grammar, else `Wide` where it is one past `MOST_WIDE`. `Read` comes only
+/// where a read failed, and with every other answer none did. Want of memory alone is free. A source that tells
+/// what it has left tells what it gave, and a script comes only from its end.
 pub fn read_script<S: Source>(alloc: Global, source: &mut S, lanes: u32) -> Reading
     ensures script { IfOk result.outcome (λ script. (taken : List ℕ)
         → spec.Gave (S.left source.old) (S.left source.new) taken
@@ -81,9 +93,11 @@ pub fn read_script<S: Source>(alloc: Global, source: &mut S, lanes: u32) -> Read
         → (taken : List ℕ) → spec.Gave (S.left source.old) (S.left source.new) taken
         → spec.Stop taken lanes event → spec.IsTold event result.outcome }
     ensures counted { (taken : List ℕ) → spec.Gave (S.left source.old) (S.left source.new) taken
-        → spec.Counts taken result.outcome result.good }
+        → spec.Counts lanes taken result.outcome result.good }
     ensures good { (taken : List ℕ) → spec.Gave (S.left source.old) (S.left source.new) taken
         → spec.AreGood lanes (spec.counted_lines taken) result.good }
+    ensures most { (taken : List ℕ) → spec.Gave (S.left source.old) (S.left source.new) taken
+        → length taken ≤ spec.most_bytes + spec.most_piece }
     ensures taken { spec.GaveSome (S.left source.old) (S.left source.new) }
     ensures ended { OnOk result.outcome (IsAtEnd (S.left source.new)) }
     ensures later { S.faults source.old ≤ S.faults source.new }
@@ -95,38 +109,45 @@ pub fn read_script<S: Source>(alloc: Global, source: &mut S, lanes: u32) -> Read
     ensures lanes { IfOk result.outcome (λ script.
         AllByRecursion (λ line. line.lane < lanes) script.lines) }
 {
-    let mut lines = Vec::new(alloc);
-    if let Err(stop) = read_lines(alloc, source, lanes, &mut lines) {
-        return Reading {
-            good: lines.len() as u64,
+    let mut pieces = Pieces::new(alloc);
+    let end = read_source(alloc, source, lanes, &mut pieces);
+    let GoodLines { lines, why, .. } = pieces.good;
+    let good = lines.len() as u64;
+    match end {
+        Ok(()) => Reading {
+            good,
+            why,
+            outcome: Ok(Script {
+                lines: ListOf::of_vec(lines),
+                routes: ListOf::new(alloc),
+            }),
+        },
+        Err(stop) => Reading {
+            good,
+            why,
             outcome: Err(stop),
-        };
-    }
-    Reading {
-        good: lines.len() as u64,
-        outcome: Ok(Script {
-            lines: ListOf::of_vec(lines),
-        }),
+        },
     }
 }
 
 /// Reads the lines of a source, by way of a buffer for its pieces, up to the event at which reading stops.
-fn read_lines<S: Source>(
+fn read_source<S: Source>(
     alloc: Global,
     source: &mut S,
     lanes: u32,
-    lines: &mut Vec<Line>,
+    pieces: &mut Pieces,
 ) -> Result<(), ReadStop>
-    requires empty { lines.old.items ≡ [] }
-    ensures read { spec.HasRead lanes (S.left source.old) (S.left source.new)
-        (S.faults source.old) (S.faults source.new) lines.new.items result }
+    requires none { steps.Reads lanes [] pieces.old.good.lines.items pieces.old.good.wide
+        pieces.old.rest.items }
+    ensures read { steps.HasRead lanes (S.left source.old) (S.left source.new)
+        (S.faults source.old) (S.faults source.new) pieces.new.good.lines.items result }
     ensures later { S.faults source.old ≤ S.faults source.new }
     ensures kept { OnOk result (S.faults source.new ≡ S.faults source.old) }
     ensures calm { IfErr result (λ stop. stop ≢ ReadStop.Read
         → S.faults source.new ≡ S.faults source.old) }
 {
     match piece_room(alloc) {
-        Ok(mut buffer) => read_pieces(alloc, source, lanes, buffer.as_mut_slice(), lines),
+        Ok(mut buffer) => read_pieces(alloc, source, lanes, buffer.as_mut_slice(), pieces),
         Err(_) => Err(ReadStop::Memory),
     }
 }
@@ -147,51 +168,33 @@ fn read_pieces<S: Source>(
     source: &mut S,
     lanes: u32,
     buffer: &mut [u8],
-    lines: &mut Vec<Line>,
+    pieces: &mut Pieces,
 ) -> Result<(), ReadStop>
     requires room { 0 < length buffer.old }
     requires piece { length buffer.old ≤ spec.most_piece }
-    requires empty { lines.old.items ≡ [] }
-    ensures read { spec.HasRead lanes (S.left source.old) (S.left source.new)
-        (S.faults source.old) (S.faults source.new) lines.new.items result }
+    requires none { steps.Reads lanes [] pieces.old.good.lines.items pieces.old.good.wide
+        pieces.old.rest.items }
+    ensures read { steps.HasRead lanes (S.left source.old) (S.left source.new)
+        (S.faults source.old) (S.faults source.new) pieces.new.good.lines.items result }
     ensures later { S.faults source.old ≤ S.faults source.new }
     ensures kept { OnOk result (S.faults source.new ≡ S.faults source.old) }
     ensures calm { IfErr result (λ stop. stop ≢ ReadStop.Read
         → S.faults source.new ≡ S.faults source.old) }
 {
-    let mut rest = Vec::new(alloc);
     // How many bytes may still come.
     let mut room = most_bytes();
     'pieces: loop {
         match source.read(buffer) {
             Got::Bytes(count) => {
-                let piece = &buffer[..count.min(room)];
-                if let Err(stop) = read_piece(alloc, piece, lanes, &mut rest, lines) {
-                    return Err(stop_at(stop, lines.as_slice()));
-                }
+                pieces.take(alloc, &buffer[..count.min(room)], lanes)?;
                 if count > room {
                     return Err(ReadStop::Limit(Limit::Bytes));
                 }
                 room -= count;
             }
-            Got::End => {
-                if let Err(stop) = read_last(alloc, rest.as_slice(), lanes, lines) {
-                    return Err(stop_at(stop, lines.as_slice()));
-                }
-                return Ok(());
-            }
+            Got::End => return pieces.finish(alloc, lanes),
             Got::Failed => return Err(ReadStop::Read),
         }
-    }
-}
-
-/// Why reading ends at a line that wasn't read, after these good ones.
-fn stop_at(stop: LineStop, good: &[Line]) -> ReadStop
-    ensures { result ≡ spec.line_stop stop (length good.now) }
-{
-    match stop {
-        LineStop::Bad => ReadStop::Bad(good.len() as u64 + 1),
-        LineStop::Memory => ReadStop::Memory,
     }
 }
 

@@ -10,7 +10,8 @@ use Rattle.ov_lane.proofs.dealing.deal.Goals as goal
 pub push_reserved-requires : goal.push_reserved-requires
 push_reserved-requires c =
     let long = ap length c.loop-number.invariant.made ∙ length_fresh (name_of c.args.lock.now) 0 c.loop-number.number in
-    let room = c.loop-number.invariant.room in
+    let room = c.loop-number.invariant.capacity in
+    let enough = c.requires.room in
     let test = c.loop-number-test.true in
     omega arith
 
@@ -25,6 +26,6 @@ loop-number-preserved c =
       left = (let was = c.loop-number.invariant.left in let fewer = ap length last ∙ length-append c.pop.new.self.items (c.in-Some.owed ∷ []) in omega arith);
       each = all_front HasRoom c.pop.new.self.items (c.in-Some.owed ∷ []) (subst (AllByRecursion HasRoom) last c.loop-number.invariant.each);
       made = c.push_reserved.ensures.items ∙ ap (λ (l : List Passing). l ++ c.cut-rest.result.1 ∷ []) c.loop-number.invariant.made ∙ ap (λ (p : Passing). fresh_from name 0 n ++ p ∷ []) c.cut-rest.ensures.pass
-          ∙ ap (λ k. fresh_from name 0 n ++ fresh name k ∷ []) (let e : n ≡ 0 + n = omega arith in e) ∙ sym (fresh_more name 0 n) ∙ ap (fresh_from name 0) (sym (add-one n));
-      room = (let was = c.loop-number.invariant.room in let same = c.push_reserved.ensures.capacity in omega arith);
+          ∙ ap (λ k. fresh_from name 0 n ++ fresh name k 2 ∷ []) (let e : n ≡ 0 + n = omega arith in e) ∙ sym (fresh_more name 0 n) ∙ ap (fresh_from name 0) (sym (add-one n));
+      capacity = c.push_reserved.ensures.capacity ∙ c.loop-number.invariant.capacity;
     }

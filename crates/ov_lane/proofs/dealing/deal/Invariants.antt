@@ -1,4 +1,4 @@
-use Rattle.std.proofs.Common.{◌≡◌, ◌+◌, ◌*◌, ◌≤◌, length}
+use Rattle.std.proofs.Common.{◌≡◌, ◌+◌, ◌*◌, length}
 use Rattle.std.specs.List.{AllByRecursion}
 use Rattle.std.specs.Vec.{vec_capacity}
 use Rattle.ov_turn.specs.Seats.{share_of, name_of}
@@ -14,5 +14,5 @@ invariant-loop-number l = record {
   left : length l.rooms.items + l.number ≡ l.count;
   each : AllByRecursion HasRoom l.rooms.items;
   made : l.passes.items ≡ fresh_from (name_of l.lock) 0 l.number;
-  room : l.count ≤ vec_capacity l.passes;
+  capacity : vec_capacity l.passes ≡ vec_capacity l.fn.passes;
 }

@@ -1,14 +1,12 @@
 use Rattle.std.proofs.Common.{◌≡◌, ◌+◌, ◌++◌, List, length}
-use Rattle.ov_turn.specs.Seats.{share_of}
 use Rattle.ov_lane.specs.Passes.{Passing}
 use Rattle.ov_lane.specs.Inner.{HasTaken}
 use Rattle.ov_lane.proofs.dealing.gather.Given as goal
 
 abbrev pub invariant-loop-taken : goal.invariant-loop-taken
 invariant-loop-taken l = record {
-  counted : l.count ≡ length l.fn.passes.items;
   left : length l.passes.items + l._taken ≡ l.count;
   taken : List Passing;
   split : l.fn.passes.items ≡ l.passes.items ++ taken;
-  has : HasTaken l.lock (share_of l.fn.spare) taken l.whole;
+  has : HasTaken l.lock taken l.whole;
 }

@@ -1,14 +1,12 @@
 -- What a line asks for has the form that its word names.
-use Rattle.std.proofs.Common.{◌≡◌, sym, codes, Some}
+use Rattle.std.proofs.Common.{codes, Some}
 use Rattle.serde_json.specs.View.{view}
-use Rattle.ov_model.specs.declared.line.Deed.{Deed}
 use Rattle.ov_line.specs.declared.grammar.Form.{Form}
 use Rattle.ov_line.specs.declared.line.LineStop.TheVariants as stop
 use Rattle.ov_line.specs.Values.{Has, IsWord}
 use Rattle.ov_line.specs.Forms.{form_word, deed_form}
-use Rattle.ov_line.specs.Grammar.{IsDeed}
 use Rattle.ov_line.proofs.Options.{reads_not}
-use Rattle.ov_line.proofs.Words.{has_form, has_deed, one_form}
+use Rattle.ov_line.proofs.Words.{has_form}
 use Rattle.ov_line.proofs.grammar.deed_of.Goals as goal
 
 pub returns-in_err-form : goal.returns-in_err-form

@@ -1,5 +1,5 @@
 -- Where the form's own rule gives nothing, the line asks for nothing of that form.
-use Rattle.std.proofs.Common.{◌≡◌, ◌∙◌, sym, List, ℕ}
+use Rattle.std.proofs.Common.{◌≡◌, ◌∙◌, List, ℕ}
 use Rattle.serde_json.specs.Data.{Data}
 use Rattle.serde_json.specs.View.{view}
 use Rattle.ov_base.specs.declared.address.Transport.{Transport}

@@ -1,5 +1,4 @@
 -- What stands under the name is no direction.
-use Rattle.std.proofs.Common.{◌≡◌}
 use Rattle.serde_json.specs.View.{view}
 use Rattle.ov_line.specs.Grammar.{IsDir}
 use Rattle.ov_line.proofs.Options.{reads_not_under}

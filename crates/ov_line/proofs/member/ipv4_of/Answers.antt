@@ -1,7 +1,6 @@
 -- What the definition calls the text is the text that was parsed.
 use Rattle.std.proofs.Common.{◌≡◌, ◌∙◌, sym, subst, ℕ, List}
 use Rattle.std.specs.Net.Grammar.{IsDotted}
-use Rattle.serde_json.specs.Data.{string}
 use Rattle.serde_json.specs.View.{view}
 use Rattle.ov_line.specs.Values as spec
 use Rattle.ov_line.proofs.Has.{string_same}

@@ -1,5 +1,5 @@
 -- The members of the value are those of the map in it.
-use Rattle.std.proofs.Common.{◌≡◌, ◌∙◌, ℕ, Bool, true, false, List, map, Bor, sym}
+use Rattle.std.proofs.Common.{◌≡◌, ◌∙◌, ℕ, Bool, false, List, map, Bor, sym}
 use Rattle.std.specs.Prelude.{IsTrue}
 use Rattle.serde_json.specs.View.{view, members_view}
 use Rattle.ov_line.specs.Values.{has_only}

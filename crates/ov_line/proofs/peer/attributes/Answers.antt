@@ -1,5 +1,5 @@
 -- An attribute of another kind makes no peer.
-use Rattle.std.proofs.Common.{◌≡◌, ℕ, List, Option, codes}
+use Rattle.std.proofs.Common.{codes}
 use Rattle.serde_json.specs.View.{view}
 use Rattle.ov_line.specs.Values.{Has, IsIpv4}
 use Rattle.ov_line.proofs.Options.{finds_not}

@@ -1,9 +1,8 @@
 -- Each name in its place.
-use Rattle.std.proofs.Common.{List, ℕ, false, true, codes, drop, refl, subst, Some}
-use Rattle.std.specs.Prelude.{option_map}
+use Rattle.std.proofs.Common.{List, ℕ, false, true, codes, drop, refl, Some}
 use Rattle.serde_json.specs.Data.{string}
 use Rattle.ov_model.specs.declared.line.Deed.TheVariants as deed
-use Rattle.ov_line.specs.Text.{Field, num, hex, Puts, deed_fields, line_members, lost_data}
+use Rattle.ov_line.specs.Text.{Field, num, deed_fields, line_members, lost_data}
 use Rattle.ov_line.proofs.Putting.{puts_on, plain_text}
 use Rattle.ov_line.proofs.text.put_loss.Goals as goal
 

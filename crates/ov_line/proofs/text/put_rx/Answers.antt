@@ -1,6 +1,5 @@
 -- Each name in its place.
 use Rattle.std.proofs.Common.{List, ℕ, false, true, codes, drop, refl, subst, Some}
-use Rattle.std.specs.Prelude.{option_map}
 use Rattle.serde_json.specs.Data.{string}
 use Rattle.ov_model.specs.declared.line.Deed.TheVariants as deed
 use Rattle.ov_line.specs.Text.{Field, num, hex, Puts, deed_fields, line_members, from_data}

@@ -1,4 +1,3 @@
-use Rattle.std.proofs.Common.{refl}
 use Rattle.ov_path.proofs.Going.{drew_step}
 use Rattle.ov_path.proofs.Making.{drew_made}
 use Rattle.ov_path.proofs.walk.put_to_use.Goals as goal

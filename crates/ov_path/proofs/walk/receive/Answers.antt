@@ -1,6 +1,5 @@
 use Rattle.std.proofs.Common.{rules, sym, ◌∙◌}
 use Rattle.ov_path.proofs.Going.{bad_tag_step, judged_step, refused_step}
-use Rattle.ov_path.proofs.Making.{bad_tag_made, judged_made}
 use Rattle.ov_path.proofs.walk.receive.Goals as goal
 
 pub returns-in_default-opened-clause-then : goal.returns-in_default-opened-clause-then

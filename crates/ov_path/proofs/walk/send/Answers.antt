@@ -1,4 +1,3 @@
-use Rattle.std.proofs.Common.{◌∙◌}
 use Rattle.ov_path.proofs.Going.{sent_step}
 use Rattle.ov_path.proofs.Making.{sent_made}
 use Rattle.ov_path.proofs.walk.send.Goals as goal

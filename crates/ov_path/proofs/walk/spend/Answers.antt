@@ -1,4 +1,3 @@
-use Rattle.std.proofs.Common.{refl}
 use Rattle.ov_path.proofs.Going.{spend_step}
 use Rattle.ov_path.proofs.Making.{spend_made}
 use Rattle.ov_path.proofs.walk.spend.Goals as goal

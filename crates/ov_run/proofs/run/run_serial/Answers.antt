@@ -1,8 +1,7 @@
 -- The script was read whole and run: its report is legal. Where nothing was read, there is no stop to tell.
 use Rattle.std.proofs.Common.{[], sym, ◌∙◌}
 use Rattle.std.proofs.KnownBytes.{Consumes-nil}
-use Rattle.ov_script.proofs.Judging.{gave_some}
-use Rattle.ov_script.proofs.Stopping.{early_stops, none_given}
+use Rattle.ov_script.proofs.Judging.{early_stops, gave_some, none_given}
 use Rattle.ov_run.specs.Clauses.{lanes_read}
 use Rattle.ov_run.proofs.Reporting.{reported, all_counted, stop_counted, was_read}
 use Rattle.ov_run.proofs.run.run_serial.Goals as goal

@@ -9,25 +9,21 @@ use Rattle.ov_run.specs.declared.ended.Cause.TheVariants as cause
 use Rattle.ov_run.specs.Told.{text_of}
 use Rattle.ov_run.proofs.told.tell.Goals as goal
 
--- There is one limit.
-limit_told : (told : Cause) (l : Limit) → told ≡ cause.Limit l → text_of told ≡ codes "ovpn: limit bytes\n"
-limit_told told Bytes is = ap text_of is
-
 pub returns-in-Usage-clause-whole : goal.returns-in-Usage-clause-whole
 returns-in-Usage-clause-whole g c = rw c.in-Usage.is c.write_all.ensures.whole
 
 pub returns-in-Usage-clause-part : goal.returns-in-Usage-clause-part
 returns-in-Usage-clause-part g c = rw c.in-Usage.is c.write_all.ensures.part
 
-pub returns-in-Limit-Bytes-clause-whole : goal.returns-in-Limit-Bytes-clause-whole
-returns-in-Limit-Bytes-clause-whole g c =
-    let P : List ℕ → Type 0 = λ t. OnOk c.write_all-in-Limit-Bytes.result (Appends (g.K.Sink.written c.args.sink.now) (g.K.Sink.written c.write_all-in-Limit-Bytes.new.sink) t) in
-    subst P (sym (limit_told _ _ c.in-Limit-Bytes.is)) c.write_all-in-Limit-Bytes.ensures.whole
+pub returns-in-Limit-clause-whole : goal.returns-in-Limit-clause-whole
+returns-in-Limit-clause-whole g c =
+    let P : List ℕ → Type 0 = λ t. OnOk c.write_all-in-Limit.result (Appends (g.K.Sink.written c.args.sink.now) (g.K.Sink.written c.write_all-in-Limit.new.sink) t) in
+    rw c.in-Limit.is (subst P c.limit_line.ensures c.write_all-in-Limit.ensures.whole)
 
-pub returns-in-Limit-Bytes-clause-part : goal.returns-in-Limit-Bytes-clause-part
-returns-in-Limit-Bytes-clause-part g c =
-    let P : List ℕ → Type 0 = λ t. OnErr c.write_all-in-Limit-Bytes.result (AppendsPart (g.K.Sink.written c.args.sink.now) (g.K.Sink.written c.write_all-in-Limit-Bytes.new.sink) t) in
-    subst P (sym (limit_told _ _ c.in-Limit-Bytes.is)) c.write_all-in-Limit-Bytes.ensures.part
+pub returns-in-Limit-clause-part : goal.returns-in-Limit-clause-part
+returns-in-Limit-clause-part g c =
+    let P : List ℕ → Type 0 = λ t. OnErr c.write_all-in-Limit.result (AppendsPart (g.K.Sink.written c.args.sink.now) (g.K.Sink.written c.write_all-in-Limit.new.sink) t) in
+    rw c.in-Limit.is (subst P c.limit_line.ensures c.write_all-in-Limit.ensures.part)
 
 pub returns-in-ReadFault-clause-whole : goal.returns-in-ReadFault-clause-whole
 returns-in-ReadFault-clause-whole g c = rw c.in-ReadFault.is c.write_all-in-ReadFault.ensures.whole

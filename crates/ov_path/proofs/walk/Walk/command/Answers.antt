@@ -1,4 +1,3 @@
-use Rattle.std.proofs.Common.{refl}
 use Rattle.ov_model.specs.declared.act.Act.TheVariants as act
 use Rattle.ov_path.proofs.Going.{command_step}
 use Rattle.ov_path.proofs.Making.{begin_made, made_by}

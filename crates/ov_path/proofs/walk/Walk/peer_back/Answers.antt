@@ -1,4 +1,3 @@
-use Rattle.std.proofs.Common.{refl}
 use Rattle.ov_path.proofs.Going.{peer_given_step}
 use Rattle.ov_path.proofs.Making.{peer_made, made_by}
 use Rattle.ov_path.proofs.walk.Walk.peer_back.Goals as goal

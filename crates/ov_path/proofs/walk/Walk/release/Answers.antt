@@ -1,4 +1,3 @@
-use Rattle.std.proofs.Common.{refl}
 use Rattle.ov_path.proofs.Going.{release_step}
 use Rattle.ov_path.proofs.Making.{release_made, made_by}
 use Rattle.ov_path.proofs.walk.Walk.release.Goals as goal
