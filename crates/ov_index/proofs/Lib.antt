@@ -14,3 +14,5 @@ pub mod Others
 pub mod Back
 -- A list of those that are gone goes on saying the truth of its places as one joins and one is taken out.
 pub mod Listed
+-- A live peer that is taken out at the place of its serial, changed and put back, and what an index is then.
+pub mod Returned

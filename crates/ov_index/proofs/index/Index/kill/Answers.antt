@@ -1,22 +1,20 @@
-use Rattle.std.proofs.Common.{rules, sym, ◌∙◌, ap, ◌≡◌, ◌<◌, length}
-use Rattle.std.specs.Prelude.{Some, None, vec_len, slice_set}
+use Rattle.std.proofs.Common.{rules, sym, ◌∙◌, ap, ◌≡◌, ◌<◌, length, refl}
+use Rattle.std.specs.Prelude.{Some, None, vec_len}
 use Rattle.std.specs.HashMap.{get}
 use Rattle.ov_model.specs.Tables.{Peer}
 use Rattle.ov_index.specs.Names.{same_name}
 use Rattle.ov_index.specs.Index.{Indexed, present, standing}
 use Rattle.ov_index.proofs.Held.{length_changed}
-use Rattle.ov_index.proofs.Slots.{set_set, hole_where_none, standing_at, standing_within}
-use Rattle.ov_model.specs.Tables.{change_first, has_serial, without_key}
+use Rattle.ov_index.proofs.Slots.{standing_within}
+use Rattle.ov_model.specs.Tables.{has_serial, without_key}
 use Rattle.ov_index.specs.Index.{key_taken}
 use Rattle.ov_index.proofs.Changed.{lost_key}
 use Rattle.ov_index.proofs.Held.{by_serial_is}
-use Rattle.ov_index.proofs.Held.{serial_at, serial_nowhere, nobody}
+use Rattle.ov_index.proofs.Returned.{peer_back, peer_missing, one_changed}
 use Rattle.ov_index.proofs.index.Index.kill.Goals as goal
 
 pub invariant_of-self : goal.invariant_of-self
-invariant_of-self c =
-    let items : c.take_at.new.slots.items ≡ c.self.inside.peers.items = c.take_at.ensures.now ∙ hole_where_none c.self.inside.peers.items c.args.serial (search rules) in
-    rw items c.self.invariant
+invariant_of-self c = rw (peer_missing (get same_name c.self.inside.owners) c.self.inside.homes.items c.self.inside.peers.items c.take_at.new.slots.items c.args.serial c.self.invariant (search rules) c.take_at.ensures.now).items c.self.invariant
 
 pub returns-in_default-clause-was : goal.returns-in_default-clause-was
 returns-in_default-clause-was c =
@@ -26,14 +24,9 @@ returns-in_default-clause-was c =
 
 pub returns-in_default-clause-now : goal.returns-in_default-clause-now
 returns-in_default-clause-now c =
-    let items : c.take_at.new.slots.items ≡ c.self.inside.peers.items = c.take_at.ensures.now ∙ hole_where_none c.self.inside.peers.items c.args.serial (search rules) in
-    let was : present c.self.inside.peers.items ≡ c.args.self.now.live = ap (λ x. x.live) c.self.view_is in
-    let none = serial_nowhere (get same_name c.self.inside.owners) c.self.inside.homes.items c.self.inside.peers.items c.self.invariant c.args.serial (nobody c.self.inside.peers.items c.args.serial (search rules)) in
     let f : Peer → Peer = λ q. record q { slots = without_key c.args.key q.slots } in
-    let live = ap present items ∙ sym (none.same f) ∙ ap (change_first (has_serial c.args.serial) f) was in
-    let made : vec_len c.take_at.new.slots ≡ c.args.self.now.made = search rules in
-    let keys : vec_len c.self.inside.homes ≡ c.args.self.now.keys_made = search rules in
-    λ i. record { live = live i; made = made i; keys_made = keys i }
+    let stay = peer_missing (get same_name c.self.inside.owners) c.self.inside.homes.items c.self.inside.peers.items c.take_at.new.slots.items c.args.serial c.self.invariant (search rules) c.take_at.ensures.now in
+    one_changed c.args.serial f (record { live = present c.self.inside.peers.items; made = vec_len c.self.inside.peers; keys_made = vec_len c.self.inside.homes }) (record { live = present c.take_at.new.slots.items; made = vec_len c.take_at.new.slots; keys_made = vec_len c.self.inside.homes }) c.args.self.now c.self.view_is (stay.changed f) (search rules) refl
 
 pub put_at-requires : goal.put_at-requires
 put_at-requires c =
@@ -42,8 +35,8 @@ put_at-requires c =
 
 pub invariant_of-self-2 : goal.invariant_of-self-2
 invariant_of-self-2 c =
-    let items : c.put_at.new.slots.items ≡ slice_set c.self.inside.peers.items c.args.serial (Some c.kill-killed.new.self) = c.put_at.ensures ∙ ap (λ xs. slice_set xs c.args.serial (Some c.kill-killed.new.self)) c.take_at.ensures.now ∙ set_set c.self.inside.peers.items c.args.serial None (Some c.kill-killed.new.self) in
-    rw items (lost_key (get same_name c.self.inside.owners) c.self.inside.homes.items c.self.inside.peers.items c.args.serial c.in-Some.peer c.kill-killed.new.self c.args.key c.self.invariant (search rules) c.kill-killed.ensures.now)
+    let back = peer_back (get same_name c.self.inside.owners) c.self.inside.homes.items c.self.inside.peers.items c.take_at.new.slots.items c.put_at.new.slots.items c.args.serial (λ q. record q { slots = without_key c.args.key q.slots }) c.in-Some.peer c.kill-killed.new.self c.self.invariant (search rules) c.take_at.ensures.now c.put_at.ensures c.kill-killed.ensures.now in
+    rw (back.items, sym c.kill-killed.ensures.now) (lost_key (get same_name c.self.inside.owners) c.self.inside.homes.items c.self.inside.peers.items c.args.serial c.in-Some.peer c.kill-killed.new.self c.args.key c.self.invariant (search rules) c.kill-killed.ensures.now)
 
 pub returns-clause-was : goal.returns-clause-was
 returns-clause-was c =
@@ -53,15 +46,8 @@ returns-clause-was c =
 
 pub returns-clause-now : goal.returns-clause-now
 returns-clause-now c =
-    let items : c.put_at.new.slots.items ≡ slice_set c.self.inside.peers.items c.args.serial (Some c.kill-killed.new.self) = c.put_at.ensures ∙ ap (λ xs. slice_set xs c.args.serial (Some c.kill-killed.new.self)) c.take_at.ensures.now ∙ set_set c.self.inside.peers.items c.args.serial None (Some c.kill-killed.new.self) in
-    let was : present c.self.inside.peers.items ≡ c.args.self.now.live = ap (λ x. x.live) c.self.view_is in
-    let at = serial_at (get same_name c.self.inside.owners) c.self.inside.homes.items c.self.inside.peers.items c.self.invariant c.args.serial c.in-Some.peer (standing_at c.self.inside.peers.items c.args.serial c.in-Some.peer (search rules)) in
     let f : Peer → Peer = λ q. record q { slots = without_key c.args.key q.slots } in
-    let is : c.kill-killed.new.self ≡ f c.in-Some.peer = c.kill-killed.ensures.now in
-    let live = ap present items ∙ ap (λ x. present (slice_set c.self.inside.peers.items c.args.serial (Some x))) is ∙ sym (at.changed f) ∙ ap (change_first (has_serial c.args.serial) f) was in
-    let made : vec_len c.put_at.new.slots ≡ c.args.self.now.made = search rules in
-    let keys : vec_len c.self.inside.homes ≡ c.args.self.now.keys_made = search rules in
-    λ i. record { live = live i; made = made i; keys_made = keys i }
+    one_changed c.args.serial f (record { live = present c.self.inside.peers.items; made = vec_len c.self.inside.peers; keys_made = vec_len c.self.inside.homes }) (record { live = present c.put_at.new.slots.items; made = vec_len c.put_at.new.slots; keys_made = vec_len c.self.inside.homes }) c.args.self.now c.self.view_is (peer_back (get same_name c.self.inside.owners) c.self.inside.homes.items c.self.inside.peers.items c.take_at.new.slots.items c.put_at.new.slots.items c.args.serial (λ q. record q { slots = without_key c.args.key q.slots }) c.in-Some.peer c.kill-killed.new.self c.self.invariant (search rules) c.take_at.ensures.now c.put_at.ensures c.kill-killed.ensures.now).changed (search rules) refl
 
 pub returns-in_default-clause-long : goal.returns-in_default-clause-long
 returns-in_default-clause-long c = ap (λ (x : Indexed). length x.live) (returns-in_default-clause-now c) ∙ length_changed (has_serial c.args.serial) (λ q. record q { slots = without_key c.args.key q.slots }) c.args.self.now.live

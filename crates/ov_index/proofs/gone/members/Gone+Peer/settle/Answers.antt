@@ -1,9 +1,7 @@
-use Rattle.std.proofs.Common.{rules, ◌≡◌, ◌<◌, ◌∙◌, sym, ap, length}
-use Rattle.std.specs.Prelude.{Some, None}
+use Rattle.std.proofs.Common.{rules, ◌<◌, ◌∙◌, sym, ap, length}
 use Rattle.ov_model.specs.Tables.{Peer, change_first, has_serial}
 use Rattle.ov_model.specs.Step.{is_there, settled_peer, received_peer}
-use Rattle.ov_index.specs.Index.{present, standing}
-use Rattle.ov_index.specs.Gone.{place_in}
+use Rattle.ov_index.specs.Gone.{Listed}
 use Rattle.ov_index.proofs.Slots.{standing_within}
 use Rattle.ov_index.proofs.Held.{length_changed}
 use Rattle.ov_index.proofs.Changed.{settled_alike}
@@ -12,16 +10,12 @@ use Rattle.ov_index.proofs.gone.members.Gone+Peer.settle.Goals as goal
 
 pub returns-in_default-clause-there : goal.returns-in_default-clause-there
 returns-in_default-clause-there c =
-    let items : present c.self.inside.slots.items ≡ c.args.self.now.items = ap (λ x. x.items) c.self.view_is in
-    let none : place_in (λ (p : Peer). p.serial) c.self.inside.places.items c.self.inside.slots.items c.args.serial ≡ None = search rules in
-    sym (not_placed (λ (p : Peer). p.serial) c.self.inside.places.items c.self.inside.slots.items c.self.inside.front c.self.inside.holes c.args.serial c.self.invariant none).any ∙ ap (is_there c.args.serial) items
+    sym (not_placed (λ (p : Peer). p.serial) c.self.inside.places.items c.self.inside.slots.items c.self.inside.front c.self.inside.holes c.args.serial c.self.invariant (search rules)).any ∙ ap (λ (x : Listed Peer). is_there c.args.serial x.items) c.self.view_is
 
 pub returns-in_default-clause-peers : goal.returns-in_default-clause-peers
 returns-in_default-clause-peers c =
-    let items : present c.self.inside.slots.items ≡ c.args.self.now.items = ap (λ x. x.items) c.self.view_is in
-    let none : place_in (λ (p : Peer). p.serial) c.self.inside.places.items c.self.inside.slots.items c.args.serial ≡ None = search rules in
     let dye : Peer → Peer = λ p. settled_peer c.args.settled c.args.inner (received_peer c.args.now c.args.outer p) in
-    sym items ∙ sym ((not_placed (λ (p : Peer). p.serial) c.self.inside.places.items c.self.inside.slots.items c.self.inside.front c.self.inside.holes c.args.serial c.self.invariant none).same dye) ∙ ap (change_first (has_serial c.args.serial) dye) items
+    sym (ap (λ (x : Listed Peer). x.items) c.self.view_is) ∙ sym ((not_placed (λ (p : Peer). p.serial) c.self.inside.places.items c.self.inside.slots.items c.self.inside.front c.self.inside.holes c.args.serial c.self.invariant (search rules)).same dye) ∙ ap (λ (x : Listed Peer). change_first (has_serial c.args.serial) dye x.items) c.self.view_is
 
 pub put_at-requires : goal.put_at-requires
 put_at-requires c =
@@ -30,26 +24,18 @@ put_at-requires c =
 
 pub invariant_of-self : goal.invariant_of-self
 invariant_of-self c =
-    let there : place_in (λ (p : Peer). p.serial) c.self.inside.places.items c.self.inside.slots.items c.args.serial ≡ Some c.in-Some.place = search rules in
-    let stands : standing c.self.inside.slots.items c.in-Some.place ≡ Some c.in-Some-take_at.peer = search rules in
-    let back = returned (λ (p : Peer). p.serial) c.self.inside.places.items c.self.inside.slots.items c.take_at.new.slots.items c.put_at.new.slots.items c.self.inside.front c.self.inside.holes c.args.serial c.in-Some.place (λ p. settled_peer c.args.settled c.args.inner (received_peer c.args.now c.args.outer p)) c.in-Some-take_at.peer c.settle.new.self c.self.invariant there stands c.take_at.ensures.now c.put_at.ensures c.settle.ensures (settled_alike c.args.now c.args.inner c.args.outer c.args.settled c.in-Some-take_at.peer).serial in
+    let back = returned (λ (p : Peer). p.serial) c.self.inside.places.items c.self.inside.slots.items c.take_at.new.slots.items c.put_at.new.slots.items c.self.inside.front c.self.inside.holes c.args.serial c.in-Some.place (λ p. settled_peer c.args.settled c.args.inner (received_peer c.args.now c.args.outer p)) c.in-Some-take_at.peer c.settle.new.self c.self.invariant (search rules) (search rules) c.take_at.ensures.now c.put_at.ensures c.settle.ensures (settled_alike c.args.now c.args.inner c.args.outer c.args.settled c.in-Some-take_at.peer).serial in
     back.listed
 
 pub returns-clause-there : goal.returns-clause-there
 returns-clause-there c =
-    let items : present c.self.inside.slots.items ≡ c.args.self.now.items = ap (λ x. x.items) c.self.view_is in
-    let there : place_in (λ (p : Peer). p.serial) c.self.inside.places.items c.self.inside.slots.items c.args.serial ≡ Some c.in-Some.place = search rules in
-    let stands : standing c.self.inside.slots.items c.in-Some.place ≡ Some c.in-Some-take_at.peer = search rules in
-    let back = returned (λ (p : Peer). p.serial) c.self.inside.places.items c.self.inside.slots.items c.take_at.new.slots.items c.put_at.new.slots.items c.self.inside.front c.self.inside.holes c.args.serial c.in-Some.place (λ p. settled_peer c.args.settled c.args.inner (received_peer c.args.now c.args.outer p)) c.in-Some-take_at.peer c.settle.new.self c.self.invariant there stands c.take_at.ensures.now c.put_at.ensures c.settle.ensures (settled_alike c.args.now c.args.inner c.args.outer c.args.settled c.in-Some-take_at.peer).serial in
-    sym back.any ∙ ap (is_there c.args.serial) items
+    let back = returned (λ (p : Peer). p.serial) c.self.inside.places.items c.self.inside.slots.items c.take_at.new.slots.items c.put_at.new.slots.items c.self.inside.front c.self.inside.holes c.args.serial c.in-Some.place (λ p. settled_peer c.args.settled c.args.inner (received_peer c.args.now c.args.outer p)) c.in-Some-take_at.peer c.settle.new.self c.self.invariant (search rules) (search rules) c.take_at.ensures.now c.put_at.ensures c.settle.ensures (settled_alike c.args.now c.args.inner c.args.outer c.args.settled c.in-Some-take_at.peer).serial in
+    sym back.any ∙ ap (λ (x : Listed Peer). is_there c.args.serial x.items) c.self.view_is
 
 pub returns-clause-peers : goal.returns-clause-peers
 returns-clause-peers c =
-    let items : present c.self.inside.slots.items ≡ c.args.self.now.items = ap (λ x. x.items) c.self.view_is in
-    let there : place_in (λ (p : Peer). p.serial) c.self.inside.places.items c.self.inside.slots.items c.args.serial ≡ Some c.in-Some.place = search rules in
-    let stands : standing c.self.inside.slots.items c.in-Some.place ≡ Some c.in-Some-take_at.peer = search rules in
-    let back = returned (λ (p : Peer). p.serial) c.self.inside.places.items c.self.inside.slots.items c.take_at.new.slots.items c.put_at.new.slots.items c.self.inside.front c.self.inside.holes c.args.serial c.in-Some.place (λ p. settled_peer c.args.settled c.args.inner (received_peer c.args.now c.args.outer p)) c.in-Some-take_at.peer c.settle.new.self c.self.invariant there stands c.take_at.ensures.now c.put_at.ensures c.settle.ensures (settled_alike c.args.now c.args.inner c.args.outer c.args.settled c.in-Some-take_at.peer).serial in
-    back.changed ∙ ap (change_first (has_serial c.args.serial) (λ p. settled_peer c.args.settled c.args.inner (received_peer c.args.now c.args.outer p))) items
+    let back = returned (λ (p : Peer). p.serial) c.self.inside.places.items c.self.inside.slots.items c.take_at.new.slots.items c.put_at.new.slots.items c.self.inside.front c.self.inside.holes c.args.serial c.in-Some.place (λ p. settled_peer c.args.settled c.args.inner (received_peer c.args.now c.args.outer p)) c.in-Some-take_at.peer c.settle.new.self c.self.invariant (search rules) (search rules) c.take_at.ensures.now c.put_at.ensures c.settle.ensures (settled_alike c.args.now c.args.inner c.args.outer c.args.settled c.in-Some-take_at.peer).serial in
+    back.changed ∙ ap (λ (x : Listed Peer). change_first (has_serial c.args.serial) (λ p. settled_peer c.args.settled c.args.inner (received_peer c.args.now c.args.outer p)) x.items) c.self.view_is
 
 pub returns-clause-long : goal.returns-clause-long
 returns-clause-long c = ap length (returns-clause-peers c) ∙ length_changed (has_serial c.args.serial) (λ p. settled_peer c.args.settled c.args.inner (received_peer c.args.now c.args.outer p)) c.args.self.now.items
