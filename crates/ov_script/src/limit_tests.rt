@@ -11,6 +11,7 @@ const SEND: &[u8] = br#"{"at":0,"do":"tx","lane":0,"packet":""}"#;
 const DUMP: &[u8] = br#"{"at":0,"do":"peer-dump","lane":0}"#;
 
 /// Gives one text again and again, a read each, and then another: so a long script isn't kept in memory.
+#[derive(Drop)]
 struct Again {
     text: Octets,
     times: u32,
@@ -63,7 +64,7 @@ fn padded(alloc: Global, line: &[u8], size: usize, end: &[u8]) -> Result<Octets,
 }
 
 /// What reading a text again and again gives, and then another.
-fn again(alloc: Global, text: Octets, times: u32, last: &[u8]) -> Result<Reading, Memory> {
+fn many(alloc: Global, text: Octets, times: u32, last: &[u8]) -> Result<Reading, Memory> {
     let mut source = Again {
         text,
         times,
@@ -87,9 +88,19 @@ fn a_line_has_at_most_262144_bytes(rt: HostRuntime) -> Result<(), Fail> {
         (262_144, b"\n", 65_536, Ok(1)),
         (262_144, b"", 65_536, Ok(1)),
         (262_144, b"\n", 1_000, Ok(1)),
-        (262_145, b"\n", 65_536, Err(ReadStop::Limit(Limit::LineBytes))),
+        (
+            262_145,
+            b"\n",
+            65_536,
+            Err(ReadStop::Limit(Limit::LineBytes)),
+        ),
         (262_145, b"", 65_536, Err(ReadStop::Limit(Limit::LineBytes))),
-        (262_145, b"\n", 1_000, Err(ReadStop::Limit(Limit::LineBytes))),
+        (
+            262_145,
+            b"\n",
+            1_000,
+            Err(ReadStop::Limit(Limit::LineBytes)),
+        ),
     ];
     for (size, end, piece, expected) in rows {
         let text = padded(rt.alloc(), SEND, size, end)?;
@@ -111,7 +122,7 @@ fn a_script_has_at_most_262144_lines(rt: HostRuntime) -> Result<(), Fail> {
     ];
     for (last, expected) in rows {
         let text = padded(rt.alloc(), SEND, SEND.len(), b"\n")?;
-        let reading = again(rt.alloc(), text, 262_144, last)?;
+        let reading = many(rt.alloc(), text, 262_144, last)?;
         assert!(rt; lines_of(&reading) == expected);
         assert_eq!(rt; reading.good, 262_144);
     }
@@ -120,18 +131,22 @@ fn a_script_has_at_most_262144_lines(rt: HostRuntime) -> Result<(), Fail> {
 
 #[test]
 fn a_script_has_at_most_67108864_bytes(rt: HostRuntime) -> Result<(), Fail> {
-    // The bytes of a line with its end, how many there are, what follows, and the end. 262,144 lines of 256
-    // bytes are both limits at once, and one byte more is past both: the bytes come first.
-    let rows: [(usize, u32, &[u8], Result<usize, ReadStop>); 3] = [
-        (256, 262_144, b"", Ok(262_144)),
-        (256, 262_144, b"\n", Err(ReadStop::Limit(Limit::Bytes))),
-        (512, 131_072, b"{", Err(ReadStop::Limit(Limit::Bytes))),
+    // What follows 262,144 lines of 256 bytes, which are the most lines and the most bytes at once, and the end.
+    // One byte more is past both: the bytes come first.
+    let rows: [(&[u8], Result<usize, ReadStop>); 2] = [
+        (b"", Ok(262_144)),
+        (b"\n", Err(ReadStop::Limit(Limit::Bytes))),
     ];
-    for (size, times, last, expected) in rows {
-        let text = padded(rt.alloc(), SEND, size - 1, b"\n")?;
-        let reading = again(rt.alloc(), text, times, last)?;
-        assert!(rt; lines_of(&reading) == expected, "{size} bytes");
-        assert_eq!(rt; reading.good, u64::from(times));
+    for (last, expected) in rows {
+        let mut line = Vec::from_slice(rt.alloc(), br#"{"at":0,"do":"tx","lane":0,"packet":""#)?;
+        for _ in 0..216 {
+            line.push(b'0')?;
+        }
+        line.extend_from_slice(b"\"}\n")?;
+        assert_eq!(rt; line.len(), 256);
+        let reading = many(rt.alloc(), Octets::of_vec(line), 262_144, last)?;
+        assert!(rt; lines_of(&reading) == expected);
+        assert_eq!(rt; reading.good, 262_144);
     }
     Ok(())
 }
@@ -148,7 +163,7 @@ fn a_script_has_at_most_1024_dumps(rt: HostRuntime) -> Result<(), Fail> {
     ];
     for (times, last, expected, good) in rows {
         let text = padded(rt.alloc(), DUMP, DUMP.len(), b"\n")?;
-        let reading = again(rt.alloc(), text, times, last)?;
+        let reading = many(rt.alloc(), text, times, last)?;
         assert!(rt; lines_of(&reading) == expected, "{times} dumps");
         assert_eq!(rt; reading.good, good);
     }
