@@ -1,9 +1,9 @@
 use crate::{answer_line, entry_line, note_line, replay_line};
 use ov_base::{Addr, Boxed, ListOf, Memory, Octets, Transport};
 use ov_model::{
-    Act, Answer, Attrs, Call, Cipher, Command, Counts, DropCause, Entry, Errno, HoldView, InnerKind,
-    Keepalive, KeyBytes, KeyConf, KeyDir, KeyId, KeyView, Note, NoteBody, PeerId, PeerView, Place,
-    Reason, ReplayEntry, Reply, SealedOut, Settled, Slot, Verdict,
+    Act, Answer, Attrs, Call, Cipher, Command, Counts, DropCause, Entry, Errno, HoldView,
+    InnerKind, Keepalive, KeyBytes, KeyConf, KeyDir, KeyId, KeyView, Note, NoteBody, PeerId,
+    PeerView, Place, Reason, ReplayEntry, Reply, SealedOut, Settled, Slot, Verdict,
 };
 use std::alloc::Global;
 use std::test::Fail;

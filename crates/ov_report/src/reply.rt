@@ -72,7 +72,11 @@ fn append_key(page: &mut Vec<u8>, key: &KeyView) -> Result<(), Memory>
     ensures { OnOk result
         (page.new.items ≡ page.old.items ++ spec.reply_text (reply.Key key.now)) }
 {
-    append_word(page, b"{\"key\":{\"cipher-alg\":\"", cipher_name(key.cipher))?;
+    append_word(
+        page,
+        b"{\"key\":{\"cipher-alg\":\"",
+        cipher_name(key.cipher),
+    )?;
     append_number(page, b"\",\"key-id\":", key.key_id.get() as u64)?;
     append_number(page, b",\"peer-id\":", key.peer.get() as u64)?;
     append_word(page, b",\"slot\":\"", slot_name(key.slot))?;
