@@ -1,31 +1,7 @@
 -- Two passes of one table before and after a call each.
-use Rattle.std.proofs.Common.{◌≡◌, ℕ, List, [], ◌∷◌, ◌++◌, length, length-append, refl, sym, ap, ◌∙◌, arith, Ok, Err}
-use Rattle.std.specs.Prelude.{Result, IfOk, OnErr}
-use Rattle.ov_base.specs.declared.memory.Memory.{Memory}
-use Rattle.ov_model.specs.declared.command.Command.{Command}
-use Rattle.ov_model.specs.declared.reply.Reply.{Reply}
-use Rattle.ov_lane.specs.Passes.{Passing, Shared, fresh, fresh_from, AreFresh, IsFree, AreAllPasses, CallDone, OnlySaw}
-
--- A call keeps whose the pass is, its number and its shares, and a pass that holds nothing.
-pub record Keeps (old new : Passing) : Type 0 where
-  pub name : new.name ≡ old.name
-  pub number : new.number ≡ old.number
-  pub share : new.sight.share ≡ old.sight.share
-  pub free : IsFree old → IsFree new
-
-pub kept_by : (old new : Passing) (at : ℕ) (command : Command) (res : Result Reply Memory) → IfOk res (λ r. CallDone old new at command r) → OnErr res (OnlySaw old new) → Keeps old new
-kept_by old new at command (Ok r) done saw = record {
-  name = ap (λ (p : Passing). p.name) done.same;
-  number = ap (λ (p : Passing). p.number) done.same;
-  share = done.called.share;
-  free = λ free. record { holds = done.called.holds ∙ free.holds; owes = done.called.owes };
-}
-kept_by old new at command (Err e) done saw = record {
-  name = ap (λ (p : Passing). p.name) saw.same;
-  number = ap (λ (p : Passing). p.number) saw.same;
-  share = ap (λ s. s.share) saw.seen.same;
-  free = λ free. record { holds = ap (λ s. s.holds) saw.seen.same ∙ free.holds; owes = ap (λ s. s.owes) saw.seen.same ∙ free.owes };
-}
+use Rattle.std.proofs.Common.{◌≡◌, List, [], ◌∷◌, ◌++◌, length, length-append, refl, sym, ap, ◌∙◌, arith}
+use Rattle.ov_lane.specs.Passes.{Passing, Shared, fresh, fresh_from, AreFresh, AreAllPasses}
+use Rattle.ov_lane.proofs.Keeping.{Keeps}
 
 -- The two passes that a table for two begins with.
 pub record AreTwo (o : Shared) (rest : List Passing) (one two : Passing) : Type 0 where

@@ -1,5 +1,5 @@
 -- Passes are made and taken in again, and what they share at the end.
-use Rattle.std.proofs.Common.{ℕ, zero, suc, ◌≡◌, ◌≢◌, ◌+◌, ◌*◌, ◌<◌, ◌≤◌, List, [], ◌∷◌, ◌++◌, length, refl, sym, ap, ◌∙◌, subst, arith, inl, inr, true, false, if◌then◌else◌, ◌==◌, append-nil}
+use Rattle.std.proofs.Common.{ℕ, zero, suc, ◌≡◌, ◌≢◌, ◌+◌, ◌*◌, ◌<◌, ◌≤◌, List, [], ◌∷◌, ◌++◌, length, length-append, refl, sym, ap, ◌∙◌, subst, arith, inl, inr, true, false, if◌then◌else◌, ◌==◌, append-nil}
 use Rattle.std.specs.Prelude.{map}
 use Rattle.std.specs.List.{AllByRecursion}
 use Rattle.std.proofs.lemmas.Bool.{cases_eq, eq-eqb, ne_eqb}
@@ -35,6 +35,9 @@ use Rattle.ov_lane.proofs.Ordering.{all_weaker, all_both}
 pub length_fresh : (name : Name) (a n : ℕ) → length (fresh_from name a n) ≡ n
 length_fresh name a zero = refl
 length_fresh name a (suc n) = ap suc (length_fresh name (suc a) n)
+
+pub fresh_count : (o : Shared) (count : ℕ) (passes : List Passing) → AreFresh o count passes → length passes ≡ count
+fresh_count o count passes new = omega (arith, ap length new.are, length-append (fresh_from o.name 0 new.last) (fresh o.name new.last new.part ∷ []), length_fresh o.name 0 new.last, new.counted)
 
 pub fresh_more : (name : Name) (a n : ℕ) → fresh_from name a (suc n) ≡ fresh_from name a n ++ fresh name (a + n) 2 ∷ []
 fresh_more name a zero = ap (λ k. fresh name k 2 ∷ []) (let e : a ≡ a + 0 = omega arith in e)

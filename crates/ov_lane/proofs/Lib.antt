@@ -8,3 +8,5 @@ pub mod Gathering
 pub mod Releasing
 -- What a command leaves to the seat: once all of it is linked and unlinked, the releases of what nobody holds.
 pub mod Settling
+-- What a call keeps of a pass, and a table with one pass.
+pub mod Keeping

@@ -4,7 +4,8 @@ use Rattle.std.specs.Option.{option_to_list}
 use Rattle.ov_base.specs.declared.memory.Memory.{Memory}
 use Rattle.ov_model.specs.declared.reply.Reply.{Reply}
 use Rattle.ov_lane.specs.Passes.{Passing, Shared, AreAllPasses, CallDone, OneHistory}
-use Rattle.ov_clients.proofs.Passes.{Keeps, kept_by, AreTwo, two_fresh, two_all}
+use Rattle.ov_lane.proofs.Keeping.{Keeps, kept_by}
+use Rattle.ov_clients.proofs.Passes.{AreTwo, two_fresh, two_all}
 use Rattle.ov_clients.proofs.calling.call_on_two_threads.Goals as goal
 
 pub close-closed-requires : goal.close-closed-requires
