@@ -4,7 +4,8 @@
 
 use crate::ended::Cause;
 use crate::packet_tests::{
-    KEY_ANSWER, KEY_MADE, KEY5, PEER_ANSWER, PEER_MADE, PEER5, RECEIVE5, SEND5, text, written,
+    KEY_ANSWER, KEY_MADE, KEY5, PEER_ANSWER, PEER_MADE, PEER5, RECEIVE5, SEND5, ends_with, text,
+    written,
 };
 use crate::tests::{cause_of, run};
 use ov_base::Memory;
@@ -237,11 +238,6 @@ fn peer_line(alloc: Global, number: u32) -> Result<String, Memory> {
     )?)
 }
 
-/// Whether these bytes stand in a text.
-fn has(text: &[u8], part: &[u8]) -> bool {
-    text.windows(part.len()).any(|window| window == part)
-}
-
 #[test]
 fn no_peer_past_the_limit_is_made(rt: HostRuntime) -> Result<(), Fail> {
     let mut script = Vec::new(rt.alloc());
@@ -250,19 +246,15 @@ fn no_peer_past_the_limit_is_made(rt: HostRuntime) -> Result<(), Fail> {
     }
     let (status, written) = run(rt.alloc(), &["trace"], script.as_slice(), &[], &[])?;
     assert_eq!(rt; status, 0);
-    let text = written.as_slice();
-    assert!(rt;
-        has(
-            text,
-            b"{\"answer\":{\"serial\":4095},\"lane\":0,\"line\":4095}\n"
-        )
-    );
-    assert!(rt;
-        has(
-            text,
-            b"{\"answer\":{\"error\":28},\"lane\":0,\"line\":4096}\n"
-        )
-    );
+    let end = text(
+        rt.alloc(),
+        &[
+            r#"{"answer":{"serial":4095},"lane":0,"line":4095}"#,
+            r#"{"answer":{"error":28},"lane":0,"line":4096}"#,
+            r#"{"summary":{"accepted":0,"answers":4097,"bad-tag":0,"delivered":0,"journal":4097,"keys":0,"keys-differ":true,"notes":0,"peers":4096,"refused":0,"released":0,"sealed":0}}"#,
+        ],
+    )?;
+    assert!(rt; ends_with(written.as_slice(), end.as_slice()));
     Ok(())
 }
 

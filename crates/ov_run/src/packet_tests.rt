@@ -282,7 +282,7 @@ fn without_a_key_nothing_is_sealed_or_opened(rt: HostRuntime) -> Result<(), Fail
 }
 
 /// Whether `part` stands in `text` with nothing behind it.
-fn ends_with(text: &[u8], part: &[u8]) -> bool {
+pub fn ends_with(text: &[u8], part: &[u8]) -> bool {
     part.len() <= text.len() && &text[text.len() - part.len()..] == part
 }
 
