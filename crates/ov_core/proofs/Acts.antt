@@ -1,103 +1,46 @@
--- What the steps of the table answer: what a look-up finds, and how much a command takes and removes.
-use Rattle.std.proofs.Common.{ℕ, ◌≡◌, ◌≤◌, List, [], ◌∷◌, ◌++◌, length, append-nil, refl, sym, ◌∙◌, subst, arith, Bool, true, false, ◌==◌, if◌then◌else◌}
-use Rattle.std.specs.Prelude.{find, Option, Some, None, is_some}
-use Rattle.std.specs.List.{list_any}
-use Rattle.std.proofs.lemmas.Bool.{eq-eqb, or_left, or_right}
+-- What the steps of the table answer, and how much a command takes and removes.
+use Rattle.std.proofs.Common.{ℕ, ◌≡◌, ◌+◌, ◌*◌, ◌≤◌, Bool, true, false, if◌then◌else◌, List, [], ◌∷◌, ◌++◌, length, length-append, refl, ◌∙◌, ap, arith}
+use Rattle.std.specs.Prelude.{Option, Some, None, filter, nat_lt}
+use Rattle.std.proofs.lemmas.List.{length-map, map-append}
 use Rattle.ov_base.specs.declared.address.Addr.{Addr}
 use Rattle.ov_base.specs.declared.address.Transport.{Transport}
-use Rattle.ov_base.specs.Address.{same_transport}
 use Rattle.ov_model.specs.declared.ident.PeerId.{PeerId}
 use Rattle.ov_model.specs.declared.ident.KeyId.{KeyId}
 use Rattle.ov_model.specs.declared.command.Command.{Command}
 use Rattle.ov_model.specs.declared.command.Command.TheVariants as command
+use Rattle.ov_model.specs.declared.command.Reason.{Reason}
+use Rattle.ov_model.specs.declared.command.Reason.TheVariants.{Expired, Teardown}
+use Rattle.ov_model.specs.declared.act.Act.TheVariants as act
 use Rattle.ov_model.specs.declared.act.InnerKind.{InnerKind}
-use Rattle.ov_model.specs.declared.reply.HoldView.{HoldView}
 use Rattle.ov_model.specs.declared.reply.Settled.{Settled}
 use Rattle.ov_model.specs.declared.reply.Reply.{Reply}
 use Rattle.ov_model.specs.declared.reply.Reply.TheVariants as reply
-use Rattle.ov_model.specs.Tables.{Peer, Key, Table, has_id, by_id, by_remote, by_vpn, has_vpn, by_key_id, keys_in, keys_of, key_if_any, in_slot, key_serials}
-use Rattle.ov_model.specs.Step.{Outcome, replied, where_found, peer_new_checks, peer_made, peer_new, peer_set_checks, peer_changed, peer_set, peer_get, peer_dump, remove_peer, key_new_checks, key_made, key_new, key_get, key_swap, key_del, hold_of, key_found, tx_look, rx_look, sent, settle, settled_as, command_step, is_there, has_key}
+use Rattle.ov_model.specs.Tables.{Peer, Key, Table, by_id, by_serial, by_vpn, by_key_id, keys_in, keys_of, key_if_any, in_slot, key_serials, serials_of, put_by_id, by_rising_id}
+use Rattle.ov_model.specs.Step.{Outcome, replied, peer_new_checks, peer_made, peer_new, peer_set_checks, peer_changed, peer_set, peer_get, peer_dump, remove_peer, removals, key_new_checks, key_made, key_new, key_get, key_swap, key_del, tx_look, rx_peer, rx_look, keep_look, sent, settle, settled_as, is_expired, expired_of, due_of, tick, down, command_step}
 use Rattle.ov_model.specs.Path.{removed}
 use Rattle.ov_model.proofs.StepCases.{unless_has, found_has}
-use Rattle.ov_path.specs.Desks.{IsLookReply}
+use Rattle.ov_path.specs.Desks.{IsLookReply, IsKeepReply, is_tick, is_ticked}
+use Rattle.ov_core.specs.Seats.{room_of}
 
 -- ---- look-ups
 
--- What a look-up holds is live: the peer, and the key in one of its slots.
-pub record Holds (t : Table) (h : HoldView) : Type 0 where
-  pub there : is_there h.peer t.live ≡ true
-  pub key : list_any (has_key h.key) t.live ≡ true
-
-found_member : {X : Type 0} (p q : X → Bool) (xs : List X) (x : X) → find p xs ≡ Some x → q x ≡ true → list_any q xs ≡ true
-found_member p q [] x found test = absurd (cc)
-found_member {X} p q (y ∷ ys) x found test =
-    elim (p y) as (λ b. p y ≡ b → list_any q (y ∷ ys) ≡ true) [
-      | true ↦ λ yes.
-          let first : find p (y ∷ ys) ≡ Some y = rw yes refl in
-          let its : y ≡ x = (let e : Some y ≡ Some x = sym first ∙ found in cc) in
-          let at : q y ≡ true = rw its test in
-          or_left (q y) (list_any q ys) at
-      | false ↦ λ no.
-          let later : find p (y ∷ ys) ≡ find p ys = rw no refl in
-          or_right (q y) (list_any q ys) (found_member p q ys x (sym later ∙ found) test)
-    ] refl
-
-found_some : {X : Type 0} (p q : X → Bool) (xs : List X) (x : X) → find p xs ≡ Some x → q x ≡ true → is_some (find q xs) ≡ true
-found_some p q [] x found test = absurd (cc)
-found_some {X} p q (y ∷ ys) x found test =
-    elim (q y) as (λ b. q y ≡ b → is_some (find q (y ∷ ys)) ≡ true) [
-      | true ↦ λ yes. rw yes refl
-      | false ↦ λ no.
-          let skip : find q (y ∷ ys) ≡ find q ys = rw no refl in
-          rw skip (elim (p y) as (λ b. p y ≡ b → is_some (find q ys) ≡ true) [
-            | true ↦ λ yes.
-                let first : find p (y ∷ ys) ≡ Some y = rw yes refl in
-                let its : y ≡ x = (let e : Some y ≡ Some x = sym first ∙ found in cc) in
-                absurd (let at : q y ≡ true = rw its test in cc)
-            | false ↦ λ other.
-                let later : find p (y ∷ ys) ≡ find p ys = rw other refl in
-                found_some p q ys x (sym later ∙ found) test
-          ] refl)
-    ] refl
-
-own_serial : (n : ℕ) → (n == n) ≡ true
-own_serial n = eq-eqb n n refl
-
--- The reply of a look-up and what it holds.
-pub record Looks (t : Table) (o : Outcome) : Type 0 where
-  pub fits : IsLookReply o.reply
-  pub holds : (h : HoldView) → o.reply ≡ reply.Hold h → Holds t h
-  pub live : o.after.live ≡ t.live
-
-look_looks : (t : Table) (now : ℕ) (test : Peer → Bool) (p : Option Peer) (key : Peer → Option Key) → find test t.live ≡ p → ((q : Peer) (k : Key) → key q ≡ Some k → has_key k.serial q ≡ true) → Looks t (where_found t now reply.NoPeer p (λ q. key_found t now q (key q)))
-look_looks t now test p key is own =
-    found_has (Looks t) t now _ p _ (record { fits = tt; holds = λ h e. absurd (cc); live = refl }) (λ q at.
-    found_has (Looks t) t now _ (key q) _ (record { fits = tt; holds = λ h e. absurd (cc); live = refl }) (λ k has. record {
-      fits = tt;
-      holds = λ h e.
-          let its : hold_of q k ≡ h = cc in
-          let found : find test t.live ≡ Some q = is ∙ at in
-          let there : is_there q.serial t.live ≡ true = found_member test (λ r. r.serial == q.serial) t.live q found (own_serial q.serial) in
-          let key_there : list_any (has_key k.serial) t.live ≡ true = found_member test (has_key k.serial) t.live q found (own q k has) in
-          subst (λ x. Holds t x) its (record { there = there; key = key_there });
-      live = refl;
-    }))
-
-pub tx_looks : (t : Table) (now : ℕ) (a : Addr) → Looks t (tx_look t now a)
+pub tx_fits : (t : Table) (now : ℕ) (a : Addr) → IsLookReply (tx_look t now a).reply
 unfolding tx_look
-tx_looks t now a = look_looks t now (has_vpn a) (by_vpn a t.live) (λ p. p.slots.primary) refl (λ q k at. rw (at, own_serial k.serial) refl)
+tx_fits t now a =
+    let P : Outcome → Type 0 = λ o. IsLookReply o.reply in
+    found_has P t now _ (by_vpn a t.live) _ tt (λ p at. found_has P t now _ p.slots.primary _ tt (λ k has. tt))
 
-rx_test : (p : Peer) (key_id : KeyId) (k : Key) → by_key_id key_id p.slots ≡ Some k → has_key k.serial p ≡ true
-rx_test p key_id k is = found_some (λ x. x.key_id.number == key_id.number) (λ x. x.serial == k.serial) (keys_in p.slots) k is (own_serial k.serial)
-
-pub rx_looks : (t : Table) (now : ℕ) (id : PeerId) (key_id : KeyId) (from : Transport) → Looks t (rx_look t now id key_id from)
+pub rx_fits : (t : Table) (now : ℕ) (id : PeerId) (key_id : KeyId) (from : Transport) → IsLookReply (rx_look t now id key_id from).reply
 unfolding rx_look
-rx_looks t now id key_id from =
-    let key : Peer → Option Key = λ p. by_key_id key_id p.slots in
-    elim (id.number == 16777215) as (λ b. Looks t (where_found t now reply.NoPeer (if b then by_remote from t.live else by_id id t.live) (λ q. key_found t now q (key q)))) [
-      | true ↦ look_looks t now (λ p. same_transport p.remote from) (by_remote from t.live) key refl (λ q k is. rx_test q key_id k is)
-      | false ↦ look_looks t now (has_id id) (by_id id t.live) key refl (λ q k is. rx_test q key_id k is)
-    ]
+rx_fits t now id key_id from =
+    let P : Outcome → Type 0 = λ o. IsLookReply o.reply in
+    found_has P t now _ (rx_peer id from t.live) _ tt (λ p at. found_has P t now _ (by_key_id key_id p.slots) _ tt (λ k has. tt))
+
+pub keep_fits : (t : Table) (now peer : ℕ) → IsKeepReply (keep_look t now peer).reply
+unfolding keep_look
+keep_fits t now peer =
+    let P : Outcome → Type 0 = λ o. IsKeepReply o.reply in
+    found_has P t now _ (by_serial peer t.live) _ tt (λ p at. found_has P t now _ p.slots.primary _ tt (λ k has. tt))
 
 -- ---- the uses of a hold
 
@@ -116,18 +59,12 @@ settle_says t now peer from k inner outer = record { settled = settled_as peer k
 
 -- ---- commands
 
-abbrev pub is_hold : Reply → Bool
-is_hold (reply.Hold h) = true
-is_hold _ = false
+-- No more keys leave their slots and peers their list by a step than so many.
+pub record Few (most : ℕ) (o : Outcome) : Type 0 where
+  pub few : length o.taken + length (removed o.reply) ≤ most
 
--- A command takes two keys at most out of their slots, removes one peer at most, and holds nothing.
-pub record Few (o : Outcome) : Type 0 where
-  pub keys : length o.taken ≤ 2
-  pub peers : length (removed o.reply) ≤ 1
-  pub holds_none : is_hold o.reply ≡ false
-
-few_plain : (t : Table) (now : ℕ) (r : Reply) → length (removed r) ≤ 1 → is_hold r ≡ false → Few (replied t now r)
-few_plain t now r few holds = record { keys = omega arith; peers = few; holds_none = holds }
+few_plain : (t : Table) (now : ℕ) (r : Reply) → length (removed r) ≤ 3 → Few 3 (replied t now r)
+few_plain t now r few = record { few = omega arith }
 
 serials_any : (k : Option Key) → length (key_serials (key_if_any k)) ≤ 1
 serials_any None = omega arith
@@ -137,25 +74,97 @@ serials_both : (a b : Option Key) → length (key_serials (key_if_any a ++ key_i
 serials_both None b = let one = serials_any b in omega arith
 serials_both (Some k) b = let one = serials_any b in omega arith
 
-serials_one : (p : Peer) → length (key_serials (keys_of (p ∷ []))) ≤ 2
-serials_one p = rw (append-nil (keys_in p.slots)) (serials_both p.slots.primary p.slots.secondary)
+-- Each peer has two keys at most.
+keys_few : (ps : List Peer) → length (key_serials (keys_of ps)) ≤ 2 * length ps
+keys_few [] = omega arith
+keys_few (p ∷ ps) =
+    let own : length (key_serials (keys_in p.slots)) ≤ 2 = serials_both p.slots.primary p.slots.secondary in
+    let later : length (key_serials (keys_of ps)) ≤ 2 * length ps = keys_few ps in
+    let all : length (key_serials (keys_of (p ∷ ps))) ≡ length (key_serials (keys_in p.slots)) + length (key_serials (keys_of ps)) =
+    ap length (map-append (λ (k : Key). k.serial) (keys_in p.slots) (keys_of ps)) ∙ length-append (key_serials (keys_in p.slots)) (key_serials (keys_of ps)) in
+    omega arith
 
-pub command_few : (t : Table) (now : ℕ) (c : Command) → Few (command_step t now c)
-unfolding peer_new peer_set peer_get peer_dump remove_peer key_new key_get key_swap key_del
-command_few t now (command.PeerNew a) = found_has Few t now _ a.remote _ (few_plain t now _ (omega arith) refl)
-    (λ remote is. unless_has Few t now (peer_new_checks t a remote) (peer_made t now a remote) (λ e. few_plain t now (reply.Refused e) (omega arith) refl) (record { keys = omega arith; peers = omega arith; holds_none = refl }))
-command_few t now (command.PeerSet a) = found_has Few t now _ (by_id a.id t.live) _ (few_plain t now _ (omega arith) refl)
-    (λ p found. unless_has Few t now (peer_set_checks t a) (peer_changed t now a) (λ e. few_plain t now (reply.Refused e) (omega arith) refl) (record { keys = omega arith; peers = omega arith; holds_none = refl }))
-command_few t now (command.PeerGet id) = found_has Few t now _ (by_id id t.live) _ (few_plain t now _ (omega arith) refl) (λ p found. few_plain t now _ (omega arith) refl)
-command_few t now command.PeerDump = few_plain t now _ (omega arith) refl
-command_few t now (command.Remove id reason) = found_has Few t now _ (by_id id t.live) _ (few_plain t now _ (omega arith) refl)
-    (λ p found. record { keys = serials_one p; peers = omega arith; holds_none = refl })
-command_few t now (command.KeyNew c) = found_has Few t now _ (by_id c.peer t.live) _ (few_plain t now _ (omega arith) refl)
-    (λ p found. unless_has Few t now (key_new_checks t) (key_made t now c p) (λ e. few_plain t now (reply.Refused e) (omega arith) refl)
-    (record { keys = (let one = serials_any (in_slot c.slot p.slots) in omega arith); peers = omega arith; holds_none = refl }))
-command_few t now (command.KeyGet id slot) = found_has Few t now _ (by_id id t.live) _ (few_plain t now _ (omega arith) refl)
-    (λ p found. found_has Few t now _ (in_slot slot p.slots) _ (few_plain t now _ (omega arith) refl) (λ k has. few_plain t now _ (omega arith) refl))
-command_few t now (command.KeySwap id) = found_has Few t now _ (by_id id t.live) _ (few_plain t now _ (omega arith) refl)
-    (λ p found. record { keys = omega arith; peers = omega arith; holds_none = refl })
-command_few t now (command.KeyDel id slot) = found_has Few t now _ (by_id id t.live) _ (few_plain t now _ (omega arith) refl)
-    (λ p found. record { keys = (let one = serials_any (in_slot slot p.slots) in omega arith); peers = omega arith; holds_none = refl })
+-- A removal of some of the live peers.
+few_removals : (t : Table) (now most : ℕ) (reason : Reason) (gone left : List Peer) (r : Reply) → removed r ≡ serials_of gone → 3 * length gone ≤ most → Few most (removals t now reason gone left r)
+few_removals t now most reason gone left r are some =
+    let keys : length (key_serials (keys_of gone)) ≤ 2 * length gone = keys_few gone in
+    let peers : length (removed r) ≡ length gone = ap length are ∙ length-map gone (λ (p : Peer). p.serial) in
+    record { few = omega arith }
+
+-- By rising id there are as many.
+put_long : (p : Peer) (qs : List Peer) → length (put_by_id p qs) ≡ length qs + 1
+put_long p [] = refl
+put_long p (q ∷ qs) =
+    let later : length (put_by_id p qs) ≡ length qs + 1 = put_long p qs in
+    elim (nat_lt p.id.number q.id.number) as (λ b. length (if b then p ∷ q ∷ qs else (q ∷ put_by_id p qs)) ≡ length (q ∷ qs) + 1) [
+      | true ↦ omega arith
+      | false ↦ omega arith
+    ]
+
+rising_long : (ps : List Peer) → length (by_rising_id ps) ≡ length ps
+rising_long [] = refl
+rising_long (p ∷ ps) =
+    let put : length (put_by_id p (by_rising_id ps)) ≡ length (by_rising_id ps) + 1 = put_long p (by_rising_id ps) in
+    let later : length (by_rising_id ps) ≡ length ps = rising_long ps in
+    omega arith
+
+filter_few : {X : Type 0} (f : X → Bool) (xs : List X) → length (filter f xs) ≤ length xs
+filter_few f [] = omega arith
+filter_few f (x ∷ xs) =
+    let later : length (filter f xs) ≤ length xs = filter_few f xs in
+    elim (f x) as (λ b. length (if b then x ∷ filter f xs else filter f xs) ≤ length (x ∷ xs)) [ true ↦ omega arith | false ↦ omega arith ]
+
+expired_few : (now : ℕ) (live : List Peer) → length (expired_of now live) ≤ length live
+expired_few now live =
+    let some : length (filter (is_expired now) (by_rising_id live)) ≤ length (by_rising_id live) = filter_few (is_expired now) (by_rising_id live) in
+    let all : length (by_rising_id live) ≡ length live = rising_long live in
+    omega arith
+
+-- A step's reply isn't that of a tick.
+abbrev NotTicked : Outcome → Type 0
+NotTicked o = is_ticked o.reply ≡ false
+
+pub command_few : (t : Table) (now : ℕ) (c : Command) → Few (room_of t (act.Do c)) (command_step t now c)
+unfolding peer_new peer_set peer_get peer_dump remove_peer key_new key_get key_swap key_del tick down
+command_few t now (command.PeerNew a) = found_has (Few 3) t now _ a.remote _ (few_plain t now _ (omega arith))
+    (λ remote is. unless_has (Few 3) t now (peer_new_checks t a remote) (peer_made t now a remote) (λ e. few_plain t now (reply.Refused e) (omega arith)) (record { few = omega arith }))
+command_few t now (command.PeerSet a) = found_has (Few 3) t now _ (by_id a.id t.live) _ (few_plain t now _ (omega arith))
+    (λ p found. unless_has (Few 3) t now (peer_set_checks t a) (peer_changed t now a) (λ e. few_plain t now (reply.Refused e) (omega arith)) (record { few = omega arith }))
+command_few t now (command.PeerGet id) = found_has (Few 3) t now _ (by_id id t.live) _ (few_plain t now _ (omega arith)) (λ p found. few_plain t now _ (omega arith))
+command_few t now command.PeerDump = few_plain t now _ (omega arith)
+command_few t now (command.Remove id reason) = found_has (Few 3) t now _ (by_id id t.live) _ (few_plain t now _ (omega arith))
+    (λ p found. few_removals t now 3 reason (p ∷ []) _ (reply.Removed (serials_of (p ∷ []))) refl (omega arith))
+command_few t now (command.KeyNew c) = found_has (Few 3) t now _ (by_id c.peer t.live) _ (few_plain t now _ (omega arith))
+    (λ p found. unless_has (Few 3) t now (key_new_checks t) (key_made t now c p) (λ e. few_plain t now (reply.Refused e) (omega arith))
+    (record { few = (let one = serials_any (in_slot c.slot p.slots) in omega arith) }))
+command_few t now (command.KeyGet id slot) = found_has (Few 3) t now _ (by_id id t.live) _ (few_plain t now _ (omega arith))
+    (λ p found. found_has (Few 3) t now _ (in_slot slot p.slots) _ (few_plain t now _ (omega arith)) (λ k has. few_plain t now _ (omega arith)))
+command_few t now (command.KeySwap id) = found_has (Few 3) t now _ (by_id id t.live) _ (few_plain t now _ (omega arith))
+    (λ p found. record { few = omega arith })
+command_few t now (command.KeyDel id slot) = found_has (Few 3) t now _ (by_id id t.live) _ (few_plain t now _ (omega arith))
+    (λ p found. record { few = (let one = serials_any (in_slot slot p.slots) in omega arith) })
+command_few t now command.Tick =
+    let some : length (expired_of now t.live) ≤ length t.live = expired_few now t.live in
+    few_removals t now (3 + 3 * length t.live) Expired (expired_of now t.live) _ (reply.Ticked (serials_of (expired_of now t.live)) (serials_of (due_of now t.live))) refl (omega arith)
+command_few t now command.Down =
+    let all : length (by_rising_id t.live) ≡ length t.live = rising_long t.live in
+    few_removals t now (3 + 3 * length t.live) Teardown (by_rising_id t.live) [] (reply.Removed (serials_of (by_rising_id t.live))) refl (omega arith)
+
+-- A tick alone is answered as one.
+pub command_ticked : (t : Table) (now : ℕ) (c : Command) → is_ticked (command_step t now c).reply ≡ is_tick c
+unfolding peer_new peer_set peer_get peer_dump remove_peer key_new key_get key_swap key_del tick down
+command_ticked t now (command.PeerNew a) = found_has NotTicked t now _ a.remote _ refl
+    (λ remote is. unless_has NotTicked t now (peer_new_checks t a remote) (peer_made t now a remote) (λ e. refl) refl)
+command_ticked t now (command.PeerSet a) = found_has NotTicked t now _ (by_id a.id t.live) _ refl
+    (λ p found. unless_has NotTicked t now (peer_set_checks t a) (peer_changed t now a) (λ e. refl) refl)
+command_ticked t now (command.PeerGet id) = found_has NotTicked t now _ (by_id id t.live) _ refl (λ p found. refl)
+command_ticked t now command.PeerDump = refl
+command_ticked t now (command.Remove id reason) = found_has NotTicked t now _ (by_id id t.live) _ refl (λ p found. refl)
+command_ticked t now (command.KeyNew c) = found_has NotTicked t now _ (by_id c.peer t.live) _ refl
+    (λ p found. unless_has NotTicked t now (key_new_checks t) (key_made t now c p) (λ e. refl) refl)
+command_ticked t now (command.KeyGet id slot) = found_has NotTicked t now _ (by_id id t.live) _ refl
+    (λ p found. found_has NotTicked t now _ (in_slot slot p.slots) _ refl (λ k has. refl))
+command_ticked t now (command.KeySwap id) = found_has NotTicked t now _ (by_id id t.live) _ refl (λ p found. refl)
+command_ticked t now (command.KeyDel id slot) = found_has NotTicked t now _ (by_id id t.live) _ refl (λ p found. refl)
+command_ticked t now command.Tick = refl
+command_ticked t now command.Down = refl

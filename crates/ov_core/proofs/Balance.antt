@@ -19,21 +19,21 @@ use Rattle.ov_model.specs.declared.reply.Reply.{Reply}
 use Rattle.ov_model.specs.declared.reply.Reply.TheVariants as reply
 use Rattle.ov_model.specs.Tables.{Table, Peer, Key, serials_of, key_serials}
 use Rattle.ov_model.specs.Events.{GaveKey, GavePeer}
-use Rattle.ov_model.specs.Step.{Outcome, tx_look, rx_look, step, act_step, May, is_there, is_retired}
+use Rattle.ov_model.specs.Step.{Outcome, tx_look, rx_look, keep_look, step, act_step, May, is_there, is_retired}
 use Rattle.ov_model.specs.Path.{removed}
 use Rattle.ov_model.specs.Removals.{times, released_by, key_released_by}
 use Rattle.ov_model.proofs.Firsts.{is_of}
 use Rattle.ov_model.proofs.KeysTaken.{slot_serials}
 use Rattle.ov_model.proofs.Tallies.{peer_stands, key_stands, any_stands}
 use Rattle.ov_model.proofs.Freed.{act_balance}
-use Rattle.ov_model.proofs.Removing.{Keeps, tx_look_keeps, rx_look_keeps}
+use Rattle.ov_model.proofs.Removing.{Keeps, tx_look_keeps, rx_look_keeps, keep_look_keeps}
 use Rattle.ov_model.specs.Next.{release_act}
 use Rattle.ov_path.specs.Desks.{Holding, NoHold, Both, PeerLeft, look_holds, held_after, MayCall, first_owed, peer_left, owed_if, HoldsKey, LeftPeer}
 use Rattle.ov_table.specs.Recorded.{Recorded, IsTold}
 use Rattle.ov_core.specs.Worlds.{World, Seat, holds_peer, holds_key, peer_holds, key_holds, is_peer, is_key, peer_owes, key_owes, joined_by, let_go, seat_stepped, after_step, seen_from, given_where, without_key, without_hold, key_given, peer_given, after_key, after_peer}
 use Rattle.ov_core.specs.Sounds.{Owes}
 use Rattle.ov_core.proofs.Owing.{due, joins_owed, taken_owed, given_owed, times_filter, total_changed_at}
-use Rattle.ov_core.proofs.There.{peer_once, key_once, HoldLives, ReplyLives, tx_lives, rx_lives}
+use Rattle.ov_core.proofs.There.{peer_once, key_once, HoldLives, ReplyLives, tx_lives, rx_lives, keep_lives}
 
 -- ---- what is owed, counted
 
@@ -116,6 +116,7 @@ pub lets_go_first : (a : Act) (os : List Owed) → ReleasesFirst a os → LetsGo
 lets_go_first (act.Do c) os first = lets_none (act.Do c) os refl refl refl
 lets_go_first (act.TxLook a) os first = lets_none (act.TxLook a) os refl refl refl
 lets_go_first (act.RxLook id key_id from) os first = lets_none (act.RxLook id key_id from) os refl refl refl
+lets_go_first (act.KeepLook peer) os first = lets_none (act.KeepLook peer) os refl refl refl
 lets_go_first (act.Sent peer inner outer ping) os first = lets_none (act.Sent peer inner outer ping) os refl refl refl
 lets_go_first (act.Settle peer from k inner outer) os first = lets_none (act.Settle peer from k inner outer) os refl refl refl
 lets_go_first (act.Spend peer key) os first = lets_none (act.Spend peer key) os refl refl refl
@@ -147,6 +148,7 @@ takes_one serial x lives outs live = elim (cases_eq serial x) [
 abbrev pub LooksFree : Act → Holding → Type 0
 LooksFree (act.TxLook a) h = h ≡ NoHold
 LooksFree (act.RxLook id key_id from) h = h ≡ NoHold
+LooksFree (act.KeepLook peer) h = h ≡ NoHold
 LooksFree _ h = ⊤
 
 -- What stands twice is on its way out where it isn't live.
@@ -175,6 +177,8 @@ look_takes t after (reply.Peer p) lives peers keys dying retired = takes_none No
 look_takes t after (reply.Peers vs) lives peers keys dying retired = takes_none NoHold after
 look_takes t after (reply.Key k) lives peers keys dying retired = takes_none NoHold after
 look_takes t after (reply.Removed ps) lives peers keys dying retired = takes_none NoHold after
+look_takes t after (reply.Ticked expired due) lives peers keys dying retired = takes_none NoHold after
+look_takes t after reply.Skip lives peers keys dying retired = takes_none NoHold after
 look_takes t after reply.NoPeer lives peers keys dying retired = takes_none NoHold after
 look_takes t after reply.NoKey lives peers keys dying retired = takes_none NoHold after
 look_takes t after (reply.Settled s) lives peers keys dying retired = takes_none NoHold after
@@ -193,6 +197,9 @@ held_of t now (act.TxLook a) h free peers keys =
 held_of t now (act.RxLook id key_id from) h free peers keys =
     let keeps : Keeps t (rx_look t now id key_id from) = rx_look_keeps t now id key_id from in
     rw free (look_takes t (rx_look t now id key_id from).after (rx_look t now id key_id from).reply (rx_lives t now id key_id from) peers keys (λ x. ap (times x) keeps.dying) (λ x. ap (λ (ks : List Key). times x (key_serials ks)) keeps.retired))
+held_of t now (act.KeepLook peer) h free peers keys =
+    let keeps : Keeps t (keep_look t now peer) = keep_look_keeps t now peer in
+    rw free (look_takes t (keep_look t now peer).after (keep_look t now peer).reply (keep_lives t now peer) peers keys (λ x. ap (times x) keeps.dying) (λ x. ap (λ (ks : List Key). times x (key_serials ks)) keeps.retired))
 held_of t now (act.Sent peer inner outer ping) h free peers keys = takes_none h (act_step t now (act.Sent peer inner outer ping)).after
 held_of t now (act.Settle peer from k inner outer) h free peers keys = takes_none h (act_step t now (act.Settle peer from k inner outer)).after
 held_of t now (act.Spend peer key) h free peers keys = takes_none h (act_step t now (act.Spend peer key)).after
@@ -245,6 +252,7 @@ pub call_first : (via : Addr → Addr) (w : World) (s : Seat) (a : Act) → MayC
 call_first via w s (act.Do c) may = (tt, tt)
 call_first via w s (act.TxLook a) may = (tt, may.0)
 call_first via w s (act.RxLook id key_id from) may = (tt, may.0)
+call_first via w s (act.KeepLook peer) may = (tt, may.hold)
 call_first via w s (act.Sent peer inner outer ping) may = (tt, tt)
 call_first via w s (act.Settle peer from k inner outer) may = (tt, tt)
 call_first via w s (act.Spend peer key) may = (tt, tt)

@@ -1,6 +1,6 @@
 -- What a step of the table leaves: any that a line may ask for, and a release.
-use Rattle.std.proofs.Common.{ℕ, ◌≡◌, ◌+◌, ◌-◌, ◌≤◌, ◌<◌, List, [], ◌∷◌, ◌++◌, length, get_or, length-append, append-nil, refl, sym, ◌∙◌, ap, subst, arith, Bool, true, false, ◌==◌, if◌then◌else◌}
-use Rattle.std.specs.Prelude.{filter, map, max, Option, Some, None, is_some, nat_eq, slice_get, slice_set, slice_index_or}
+use Rattle.std.proofs.Common.{ℕ, ◌≡◌, ◌+◌, ◌*◌, ◌-◌, ◌≤◌, ◌<◌, List, [], ◌∷◌, ◌++◌, length, get_or, length-append, append-nil, refl, sym, ◌∙◌, ap, subst, arith, Bool, true, false, ◌==◌, if◌then◌else◌}
+use Rattle.std.specs.Prelude.{⊤, filter, map, max, Option, Some, None, is_some, nat_eq, slice_get, slice_set, slice_index_or}
 use Rattle.std.specs.List.{IsDistinct}
 use Rattle.std.proofs.lemmas.Bool.{eq-eqb}
 use Rattle.std.proofs.lemmas.List.{length-map}
@@ -20,21 +20,21 @@ use Rattle.ov_model.specs.Events.{Event, Stepped, release_of}
 use Rattle.ov_model.specs.Keys.{key_of}
 use Rattle.ov_model.specs.Lifetime.{key_made_by}
 use Rattle.ov_model.specs.Next.{is_killed, release_act}
-use Rattle.ov_model.specs.Path.{IsLook, removed, spent_taken, spent_reply}
-use Rattle.ov_model.proofs.Removing.{Keeps, tx_look_keeps, rx_look_keeps, sent_keeps, settle_keeps, Spends, spend_spends}
+use Rattle.ov_model.specs.Path.{removed, spent_taken, spent_reply}
+use Rattle.ov_model.proofs.Removing.{Keeps, tx_look_keeps, rx_look_keeps, keep_look_keeps, sent_keeps, settle_keeps, Spends, spend_spends}
 use Rattle.ov_model.proofs.Tallies.{removed_differ}
 use Rattle.ov_path.specs.Desks.{Holding, NoHold, Both, PeerLeft, Called, SameLine, IsFree, MayCall, HoldsKey, IsLookReply, IsSettledReply, IsSpendReply, IsReplyOf, Joins, HasMaterial, HoldHas, held_after, look_holds, stepped_as, first_owed, after_first}
 use Rattle.ov_table.specs.Pairs.{pair_in}
 use Rattle.ov_table.specs.Recorded.{Recorded, IsTold, stepped, entry_of}
-use Rattle.ov_table.proofs.Held.{tx_held, rx_held}
+use Rattle.ov_table.proofs.Held.{tx_held, rx_held, keep_held}
 use Rattle.ov_table.proofs.Installed.{pair_installed, key_of-append}
 use Rattle.ov_table.proofs.Told.{told_step}
 use Rattle.ov_core.specs.Worlds.{World, Seat, let_go, joined_by, seat_stepped, after_step, key_holds, peer_holds}
 use Rattle.ov_core.specs.Sounds.{WorldSound}
-use Rattle.ov_core.specs.Seats.{Sitting, Seated, Happened, seen, world_of, seat_of, shown_of, via_in, empty_seat, owing_list, owe_each, has, is_held, unheld, leaving, begins_line, seat_begun, seat_called, after_call, release_call, after_release, may_owe, Kept}
+use Rattle.ov_core.specs.Seats.{Sitting, Seated, Happened, seen, world_of, seat_of, shown_of, via_in, empty_seat, owing_list, owe_each, has, is_held, unheld, leaving, takes_room, removes_all, room_of, seat_begun, begun_at, seat_called, after_call, release_call, after_release, may_owe, Kept}
 use Rattle.ov_core.proofs.Seats.{length-slice_set, set_own, set_same, set_set, map_set}
 use Rattle.ov_core.proofs.Leaving.{EventDone, below, own_at, seen_at, own_spare, spare_set}
-use Rattle.ov_core.proofs.Acts.{Looks, tx_looks, rx_looks, sent_done, SettledReply, settle_says, Few, command_few}
+use Rattle.ov_core.proofs.Acts.{tx_fits, rx_fits, keep_fits, sent_done, SettledReply, settle_says, command_few, command_ticked}
 use Rattle.ov_core.proofs.Asking.{read_seat, read_left}
 use Rattle.ov_core.proofs.Joining.{unheld_joins, unheld_few, held_by, some_filter, owed_each, owe_each-append, unheld_same}
 use Rattle.ov_core.proofs.Mays.{call_may, release_may}
@@ -48,9 +48,13 @@ free_owes h free = rw free refl
 none_joined : (seats : List Sitting) (taken gone : List ℕ) → taken ≡ [] → gone ≡ [] → unheld seats (leaving taken gone) ≡ []
 none_joined seats taken gone keys peers = rw (keys, peers) refl
 
--- A seat that takes room where a line begins changes nothing else.
-pub begun_is : (a : Act) (s : Sitting) → seat_begun a s ≡ record s { spare = (seat_begun a s).spare }
-begun_is a s = elim (begins_line a) as (λ b. (if b then record s { spare = 3 } else s) ≡ record s { spare = (if b then record s { spare = 3 } else s).spare }) [ true ↦ refl | false ↦ refl ]
+-- A seat that takes room changes nothing else.
+pub begun_is : (t : Table) (a : Act) (s : Sitting) → begun_at t a s ≡ record s { spare = (begun_at t a s).spare }
+begun_is t a s = elim (takes_room a) as (λ b. (if b then record s { spare = room_of t a } else s) ≡ record s { spare = (if b then record s { spare = room_of t a } else s).spare }) [ true ↦ refl | false ↦ refl ]
+
+-- There is room for what a line holds.
+room_three : (t : Table) (a : Act) → 3 ≤ room_of t a
+room_three t a = elim (removes_all a) as (λ b. 3 ≤ (if b then 3 + 3 * length t.live else 3)) [ true ↦ omega arith | false ↦ omega arith ]
 
 -- ---- what each act gives
 
@@ -60,8 +64,8 @@ record Fitting (d : Seated) (call : Call) (o : Outcome) (joined : List Owed) (ma
   fits : IsReplyOf call.act o.reply
   joins : Joins call.act o.reply o.taken joined
   has_material : HasMaterial material call.act o.reply
-  spare : may_owe (held_after (seat_of d).hold call.act o.reply) + length joined ≤ (seat_begun call.act (seat_of d)).spare
-  few : length o.taken + length (removed o.reply) ≤ (seat_begun call.act (seat_of d)).spare
+  spare : may_owe (held_after (seat_of d).hold call.act o.reply) + length joined ≤ (begun_at d.table.now call.act (seat_of d)).spare
+  few : length o.taken + length (removed o.reply) ≤ (begun_at d.table.now call.act (seat_of d)).spare
   no_release : let_go call.act (seat_of d).owing ≡ (seat_of d).owing
 
 -- The releases of what a step took and removed and nobody holds.
@@ -74,16 +78,14 @@ command_fits d at c material free =
     let o : Outcome = step d.table.now call in
     let joined : List Owed = joined_at d call in
     let seats : List Seat = (world_of d).seats in
-    let few : Few o = command_few d.table.now (max d.table.now.moment at) c in
-    let keys : length o.taken ≤ 2 = few.keys in
-    let peers : length (removed o.reply) ≤ 1 = few.peers in
+    let few : length o.taken + length (removed o.reply) ≤ room_of d.table.now (act.Do c) = (command_few d.table.now (max d.table.now.moment at) c).few in
     let some : length joined ≤ length (leaving o.taken (removed o.reply)) = unheld_few d.seats (leaving o.taken (removed o.reply)) in
     let whole = length-append (map owed.Key o.taken) (map owed.Peer (removed o.reply)) in
     let first = length-map o.taken owed.Key in
     let second = length-map (removed o.reply) owed.Peer in
     let owe_none : may_owe (seat_of d).hold ≡ 0 = free_owes (seat_of d).hold free.0 in
     record {
-      fits = tt;
+      fits = command_ticked d.table.now (max d.table.now.moment at) c;
       joins = record {
         some_keys = filter (λ k. key_holds k seats == 0) o.taken;
         some_peers = filter (λ p. peer_holds p seats == 0) (removed o.reply);
@@ -97,44 +99,47 @@ command_fits d at c material free =
       no_release = refl;
     }
 
-look_owes : (h : Holding) (r : Reply) → h ≡ NoHold → IsLookReply r → may_owe (look_holds h r) ≤ 2
-look_owes h (reply.Hold v) free fits = omega arith
-look_owes h reply.NoPeer free fits = rw free (omega arith)
-look_owes h reply.NoKey free fits = rw free (omega arith)
-look_owes h _ free fits = absurd fits
+look_owes : (h : Holding) (r : Reply) → h ≡ NoHold → may_owe (look_holds h r) ≤ 2
+look_owes h (reply.Hold v) free = omega arith
+look_owes h _ free = rw free (omega arith)
 
-hold_has : (material : ℕ → Option Material) (r : Reply) → ((v : HoldView) → r ≡ reply.Hold v → (m : Material) × (material v.key ≡ Some m)) → IsLookReply r → HoldHas material r
-hold_has material (reply.Hold v) installed fits = installed v refl
-hold_has material reply.NoPeer installed fits = tt
-hold_has material reply.NoKey installed fits = tt
-hold_has material _ installed fits = absurd fits
+hold_has : (material : ℕ → Option Material) (r : Reply) → ((v : HoldView) → r ≡ reply.Hold v → (m : Material) × (material v.key ≡ Some m)) → HoldHas material r
+hold_has material (reply.Hold v) installed = installed v refl
+hold_has material _ installed = tt
 
 some_of : (o : Option Material) → is_some o ≡ true → (m : Material) × (o ≡ Some m)
 some_of (Some m) some = (m, refl)
 some_of None some = absurd (cc)
 
+-- An act that looks a peer and its key up.
+abbrev LooksUp : Act → Type 0
+LooksUp (act.TxLook a) = ⊤
+LooksUp (act.RxLook id key_id from) = ⊤
+LooksUp (act.KeepLook peer) = ⊤
+LooksUp _ = ⊥
+
 -- The material of what a look-up holds.
 abbrev Installs : Seated → Place → Call → Type 0
 Installs d place call = (v : HoldView) → (step d.table.now call).reply ≡ reply.Hold v → (m : Material) × (key_of (stepped d.table place call).journal v.key ≡ Some m)
 
-looks_fit : (d : Seated) (place : Place) (call : Call) → (seat_begun call.act (seat_of d)).spare ≡ 3 → held_after (seat_of d).hold call.act (step d.table.now call).reply ≡ look_holds (seat_of d).hold (step d.table.now call).reply
-    → IsFree (shown_of d) → Looks d.table.now (step d.table.now call) → Keeps d.table.now (step d.table.now call) → let_go call.act (seat_of d).owing ≡ (seat_of d).owing
-    → (IsLookReply (step d.table.now call).reply → IsReplyOf call.act (step d.table.now call).reply) → ((step d.table.now call).taken ≡ [] → joined_at d call ≡ [] → Joins call.act (step d.table.now call).reply (step d.table.now call).taken (joined_at d call))
+looks_fit : (d : Seated) (place : Place) (call : Call) → 3 ≤ (begun_at d.table.now call.act (seat_of d)).spare → held_after (seat_of d).hold call.act (step d.table.now call).reply ≡ look_holds (seat_of d).hold (step d.table.now call).reply
+    → (seat_of d).hold ≡ NoHold → IsReplyOf call.act (step d.table.now call).reply → Keeps d.table.now (step d.table.now call) → let_go call.act (seat_of d).owing ≡ (seat_of d).owing
+    → ((step d.table.now call).taken ≡ [] → joined_at d call ≡ [] → Joins call.act (step d.table.now call).reply (step d.table.now call).taken (joined_at d call))
     → (HoldHas (key_of (stepped d.table place call).journal) (step d.table.now call).reply → HasMaterial (key_of (stepped d.table place call).journal) call.act (step d.table.now call).reply)
     → Installs d place call → Fitting d call (step d.table.now call) (joined_at d call) (key_of (stepped d.table place call).journal)
-looks_fit d place call spare_is held free looks keeps no_release fits joins has_material installed =
+looks_fit d place call room held free fits keeps no_release joins has_material installed =
     let o : Outcome = step d.table.now call in
     let joined : List Owed = joined_at d call in
     let nobody : joined ≡ [] = none_joined d.seats o.taken (removed o.reply) keeps.taken keeps.removes_none in
-    let most : may_owe (look_holds (seat_of d).hold o.reply) ≤ 2 = look_owes (seat_of d).hold o.reply free.0 looks.fits in
+    let most : may_owe (look_holds (seat_of d).hold o.reply) ≤ 2 = look_owes (seat_of d).hold o.reply free in
     let owes : may_owe (held_after (seat_of d).hold call.act o.reply) ≡ may_owe (look_holds (seat_of d).hold o.reply) = ap may_owe held in
     let none_long : length joined ≡ 0 = ap length nobody in
     let taken_none : length o.taken ≡ 0 = ap length keeps.taken in
     let gone_none : length (removed o.reply) ≡ 0 = ap length keeps.removes_none in
     record {
-      fits = fits looks.fits;
+      fits = fits;
       joins = joins keeps.taken nobody;
-      has_material = has_material (hold_has (key_of (stepped d.table place call).journal) o.reply installed looks.fits);
+      has_material = has_material (hold_has (key_of (stepped d.table place call).journal) o.reply installed);
       spare = omega arith;
       few = omega arith;
       no_release = no_release;
@@ -171,14 +176,14 @@ names_key NoHold key names = absurd names
 names_key (PeerLeft h) key names = absurd names
 
 -- What a use of a hold gives, where it takes and removes nothing that joins.
-use_fits : (d : Seated) (call : Call) (material : ℕ → Option Material) → Kept d → seat_begun call.act (seat_of d) ≡ seat_of d → held_after (seat_of d).hold call.act (step d.table.now call).reply ≡ (seat_of d).hold
+use_fits : (d : Seated) (call : Call) (material : ℕ → Option Material) → Kept d → begun_at d.table.now call.act (seat_of d) ≡ seat_of d → held_after (seat_of d).hold call.act (step d.table.now call).reply ≡ (seat_of d).hold
     → joined_at d call ≡ [] → IsReplyOf call.act (step d.table.now call).reply → (joined_at d call ≡ [] → Joins call.act (step d.table.now call).reply (step d.table.now call).taken (joined_at d call)) → HasMaterial material call.act (step d.table.now call).reply
     → length (step d.table.now call).taken + length (removed (step d.table.now call).reply) ≤ (seat_of d).spare → let_go call.act (seat_of d).owing ≡ (seat_of d).owing → Fitting d call (step d.table.now call) (joined_at d call) material
 use_fits d call material kept begun held nobody fits joins has_material few no_release =
     let spare : may_owe (seat_of d).hold ≤ (seat_of d).spare = own_spare d kept in
     let owes : may_owe (held_after (seat_of d).hold call.act (step d.table.now call).reply) ≡ may_owe (seat_of d).hold = ap may_owe held in
     let none_long : length (joined_at d call) ≡ 0 = ap length nobody in
-    let spare_is : (seat_begun call.act (seat_of d)).spare ≡ (seat_of d).spare = ap (λ (s : Sitting). s.spare) begun in
+    let spare_is : (begun_at d.table.now call.act (seat_of d)).spare ≡ (seat_of d).spare = ap (λ (s : Sitting). s.spare) begun in
     record {
       fits = fits;
       joins = joins nobody;
@@ -195,15 +200,18 @@ keeps_few t o n keeps =
     omega arith
 
 -- What any step gives that a line may ask for.
-call_fits : (d : Seated) (place : Place) (at : ℕ) (a : Act) → Kept d → MayCall (shown_of d) a → (IsLook a → Installs d place (record { at = at; act = a }))
+call_fits : (d : Seated) (place : Place) (at : ℕ) (a : Act) → Kept d → MayCall (shown_of d) a → (LooksUp a → Installs d place (record { at = at; act = a }))
     → (let call : Call = record { at = at; act = a } in Fitting d call (step d.table.now call) (joined_at d call) (key_of (stepped d.table place call).journal))
 call_fits d place at (act.Do c) kept may installed = command_fits d at c _ may
 call_fits d place at (act.TxLook a) kept may installed =
     let now : ℕ = max d.table.now.moment at in
-    looks_fit d place (record { at = at; act = act.TxLook a }) refl refl may (tx_looks d.table.now now a) (tx_look_keeps d.table.now now a) refl (λ x. x) (λ x y. (x, y)) (λ x. x) (installed tt)
+    looks_fit d place (record { at = at; act = act.TxLook a }) (omega arith) refl may.0 (tx_fits d.table.now now a) (tx_look_keeps d.table.now now a) refl (λ x y. (x, y)) (λ x. x) (installed tt)
 call_fits d place at (act.RxLook id key_id from) kept may installed =
     let now : ℕ = max d.table.now.moment at in
-    looks_fit d place (record { at = at; act = act.RxLook id key_id from }) refl refl may (rx_looks d.table.now now id key_id from) (rx_look_keeps d.table.now now id key_id from) refl (λ x. x) (λ x y. (x, y)) (λ x. x) (installed tt)
+    looks_fit d place (record { at = at; act = act.RxLook id key_id from }) (omega arith) refl may.0 (rx_fits d.table.now now id key_id from) (rx_look_keeps d.table.now now id key_id from) refl (λ x y. (x, y)) (λ x. x) (installed tt)
+call_fits d place at (act.KeepLook peer) kept may installed =
+    let now : ℕ = max d.table.now.moment at in
+    looks_fit d place (record { at = at; act = act.KeepLook peer }) (omega arith) refl may.hold (keep_fits d.table.now now peer) (keep_look_keeps d.table.now now peer) refl (λ x y. (x, y)) (λ x. x) (installed tt)
 call_fits d place at (act.Sent peer inner outer ping) kept may installed =
     let now : ℕ = max d.table.now.moment at in
     let call : Call = record { at = at; act = act.Sent peer inner outer ping } in
@@ -238,7 +246,7 @@ call_fits d place at (act.Spend peer key) kept may installed =
 call_fits d place at (act.Released peer) kept may installed = absurd may
 call_fits d place at (act.KeyReleased key) kept may installed = absurd may
 
-look_installed : (r : Recorded) (place : Place) (at : ℕ) (a : Act) (v : HoldView) → IsLook a → (step r.now (record { at = at; act = a })).reply ≡ reply.Hold v → IsTold r → (m : Material) × (key_of (stepped r place (record { at = at; act = a })).journal v.key ≡ Some m)
+look_installed : (r : Recorded) (place : Place) (at : ℕ) (a : Act) (v : HoldView) → LooksUp a → (step r.now (record { at = at; act = a })).reply ≡ reply.Hold v → IsTold r → (m : Material) × (key_of (stepped r place (record { at = at; act = a })).journal v.key ≡ Some m)
 look_installed r place at (act.TxLook a) v look is told =
     let call : Call = record { at = at; act = act.TxLook a } in
     let pair = some_of (pair_in (step r.now call).after v.key) (tx_held r.now (max r.now.moment at) a v is) in
@@ -246,6 +254,10 @@ look_installed r place at (act.TxLook a) v look is told =
 look_installed r place at (act.RxLook id key_id from) v look is told =
     let call : Call = record { at = at; act = act.RxLook id key_id from } in
     let pair = some_of (pair_in (step r.now call).after v.key) (rx_held r.now (max r.now.moment at) id key_id from v is) in
+    (pair.0, pair_installed (stepped r place call) v.key pair.0 (told_step r place call refl told) pair.1)
+look_installed r place at (act.KeepLook peer) v look is told =
+    let call : Call = record { at = at; act = act.KeepLook peer } in
+    let pair = some_of (pair_in (step r.now call).after v.key) (keep_held r.now (max r.now.moment at) peer v is) in
     (pair.0, pair_installed (stepped r place call) v.key pair.0 (told_step r place call refl told) pair.1)
 look_installed r place at (act.Do c) v look is told = absurd look
 look_installed r place at (act.Sent peer inner outer ping) v look is told = absurd look
@@ -277,9 +289,9 @@ step_done d place call kept asks =
     let was : Sitting = seat_of d in
     let seat : Seat = seen was in
     let at : slice_get w.seats d.turn ≡ Some seat = seen_at d kept in
-    let may : May d.table.now call = call_may w d.turn seat call kept.sound at asks in
+    let may : May d.table.now call = call_may (via_in d) w d.turn seat call kept.sound at asks in
     let f : Fitting d call o (joined_at d call) (key_of (stepped d.table place call).journal) = fitting d place call kept asks in
-    let s : Sitting = seat_called was place call o.reply o.taken (joined_at d call) in
+    let s : Sitting = seat_called d.table.now was place call o.reply o.taken (joined_at d call) in
     let e : Seated = after_call d place call o.reply in
     let owing_is : was.owing ++ joined_at d call ≡ let_go call.act was.owing ++ joined_by w.seats o.taken (removed o.reply) =
     ap (λ os. os ++ joined_at d call) (sym f.no_release) ∙ ap (λ os. let_go call.act was.owing ++ os) (unheld_joins d.seats o.taken (removed o.reply)) in
@@ -389,7 +401,11 @@ released_is d place at o x call r left kept x_is call_is r_is left_is =
     ap (λ (s : Sitting). record s { events = s.events ++ stepped_as place call r left.taken ∷ []; owing = after_first s.owing }) (read_seat d x kept x_is)
     ∙ ap (λ y. record (seat_of d) { events = (seat_of d).events ++ y ∷ []; owing = after_first (seat_of d).owing }) event
 
--- Before the step: the room is taken, where a line begins.
+-- The seat that took its room, as the calls tell it.
+pub begun_so : (t : Table) (a : Act) (room : ℕ) (x b : Sitting) → room ≡ room_of t a → b ≡ seat_begun room a x → b ≡ begun_at t a x
+begun_so t a room x b is begun_is = begun_is ∙ ap (λ n. seat_begun n a x) is
+
+-- Before the step: the room is taken, where the step takes any.
 pub record Begun (d e : Seated) : Type 0 where
   pub kept : Kept e
   pub line : SameLine (shown_of d) (shown_of e)
@@ -403,17 +419,17 @@ may_owe_two NoHold = omega arith
 may_owe_two (Both h) = omega arith
 may_owe_two (PeerLeft h) = omega arith
 
-begun_spare : (a : Act) (s : Sitting) → may_owe s.hold ≤ s.spare → may_owe (seat_begun a s).hold ≤ (seat_begun a s).spare
-begun_spare a s enough = elim (begins_line a) as (λ b. may_owe (if b then record s { spare = 3 } else s).hold ≤ (if b then record s { spare = 3 } else s).spare) [
-  | true ↦ (let two = may_owe_two s.hold in omega arith)
+begun_spare : (t : Table) (a : Act) (s : Sitting) → may_owe s.hold ≤ s.spare → may_owe (begun_at t a s).hold ≤ (begun_at t a s).spare
+begun_spare t a s enough = elim (takes_room a) as (λ b. may_owe (if b then record s { spare = room_of t a } else s).hold ≤ (if b then record s { spare = room_of t a } else s).spare) [
+  | true ↦ (let two = may_owe_two s.hold in let room = room_three t a in omega arith)
   | false ↦ enough
 ]
 
-pub begun : (d e : Seated) (a : Act) → Kept d → e ≡ record d { seats = slice_set d.seats d.turn (seat_begun a (seat_of d)) } → Begun d e
+pub begun : (d e : Seated) (a : Act) → Kept d → e ≡ record d { seats = slice_set d.seats d.turn (begun_at d.table.now a (seat_of d)) } → Begun d e
 begun d e a kept e_is =
-    let s : Sitting = seat_begun a (seat_of d) in
+    let s : Sitting = begun_at d.table.now a (seat_of d) in
     let v : Seated = record d { seats = slice_set d.seats d.turn s } in
-    let shape : s ≡ record (seat_of d) { spare = s.spare } = begun_is a (seat_of d) in
+    let shape : s ≡ record (seat_of d) { spare = s.spare } = begun_is d.table.now a (seat_of d) in
     let own : seat_of v ≡ s = set_own d.seats d.turn s empty_seat (below d kept) in
     let seats_are : map seen (slice_set d.seats d.turn s) ≡ (world_of d).seats =
     map_set seen d.seats d.turn s ∙ ap (λ (t : Sitting). slice_set (world_of d).seats d.turn (seen t)) shape ∙ same_seat d kept in
@@ -424,7 +440,7 @@ begun d e a kept e_is =
         long = length-slice_set d.seats d.turn s ∙ kept.long;
         turn = kept.turn;
         numbers = kept.numbers;
-        spare = spare_set d s kept (begun_spare a (seat_of d) (own_spare d kept));
+        spare = spare_set d s kept (begun_spare d.table.now a (seat_of d) (own_spare d kept));
       };
       line = record {
         events = ap (λ (t : Sitting). t.events) (own ∙ shape);
@@ -443,16 +459,16 @@ pub record Readies (d : Seated) (call : Call) (b : Sitting) (taken gone : List �
   pub first_spare : length taken ≤ (get_or (slice_set d.seats d.turn b) d.turn empty_seat).spare
   pub long : d.turn < length (owe_each (slice_set d.seats d.turn b) d.turn (map owed.Key taken))
   pub second_spare : length gone ≤ (get_or (owe_each (slice_set d.seats d.turn b) d.turn (map owed.Key taken)) d.turn empty_seat).spare
-  pub seats : owe_each (owe_each (slice_set d.seats d.turn b) d.turn (map owed.Key taken)) d.turn (map owed.Peer gone) ≡ slice_set d.seats d.turn (owing_list (seat_begun call.act (seat_of d)) (unheld d.seats (leaving taken gone)))
+  pub seats : owe_each (owe_each (slice_set d.seats d.turn b) d.turn (map owed.Key taken)) d.turn (map owed.Peer gone) ≡ slice_set d.seats d.turn (owing_list (begun_at d.table.now call.act (seat_of d)) (unheld d.seats (leaving taken gone)))
 
-pub readies : (d : Seated) (place : Place) (call : Call) (x b : Sitting) (taken gone : List ℕ) → Kept d → MayCall (shown_of d) call.act → x ≡ slice_index_or d.seats d.turn x → b ≡ seat_begun call.act x → taken ≡ (step d.table.now call).taken → gone ≡ removed (step d.table.now call).reply → Readies d call b taken gone
+pub readies : (d : Seated) (place : Place) (call : Call) (x b : Sitting) (taken gone : List ℕ) → Kept d → MayCall (shown_of d) call.act → x ≡ slice_index_or d.seats d.turn x → b ≡ begun_at d.table.now call.act x → taken ≡ (step d.table.now call).taken → gone ≡ removed (step d.table.now call).reply → Readies d call b taken gone
 readies d place call x b taken gone kept asks x_is b_is taken_is gone_is =
     let f : Fitting d call (step d.table.now call) (joined_at d call) (key_of (stepped d.table place call).journal) = fitting d place call kept asks in
     let was : Sitting = seat_of d in
-    let c : Sitting = seat_begun call.act was in
-    let its : b ≡ c = b_is ∙ ap (λ (z : Sitting). seat_begun call.act z) (read_seat d x kept x_is) in
+    let c : Sitting = begun_at d.table.now call.act was in
+    let its : b ≡ c = b_is ∙ ap (λ (z : Sitting). begun_at d.table.now call.act z) (read_seat d x kept x_is) in
     let few : length taken + length gone ≤ c.spare = rw (taken_is, gone_is) f.few in
-    let hold_is : c.hold ≡ was.hold = ap (λ (z : Sitting). z.hold) (begun_is call.act was) in
+    let hold_is : c.hold ≡ was.hold = ap (λ (z : Sitting). z.hold) (begun_is d.table.now call.act was) in
     let under : d.turn < length d.seats = below d kept in
     let seats : List Sitting = slice_set d.seats d.turn c in
     let long : length seats ≡ length d.seats = length-slice_set d.seats d.turn c in
@@ -484,10 +500,10 @@ readies d place call x b taken gone kept asks x_is b_is taken_is gone_is =
 pub called_seats : (d : Seated) (place : Place) (call : Call) (r : Reply) (b y new : Sitting) (taken gone : List ℕ) (seats : List Sitting) (left : Recorded) → Kept d → Readies d call b taken gone → taken ≡ (step d.table.now call).taken → gone ≡ removed r
     → seats ≡ owe_each (owe_each (slice_set d.seats d.turn b) d.turn (map owed.Key taken)) d.turn (map owed.Peer gone) → y ≡ slice_index_or seats d.turn y → left ≡ stepped d.table place call
     → new ≡ record y { events = y.events ++ stepped_as place call r left.taken ∷ []; hold = held_after y.hold call.act r }
-    → slice_set seats d.turn new ≡ slice_set d.seats d.turn (seat_called (seat_of d) place call r (step d.table.now call).taken (unheld d.seats (leaving (step d.table.now call).taken (removed r))))
+    → slice_set seats d.turn new ≡ slice_set d.seats d.turn (seat_called d.table.now (seat_of d) place call r (step d.table.now call).taken (unheld d.seats (leaving (step d.table.now call).taken (removed r))))
 called_seats d place call r b y new taken gone seats left kept ready taken_is gone_is seats_is y_is left_is new_is =
     let was : Sitting = seat_of d in
-    let c : Sitting = seat_begun call.act was in
+    let c : Sitting = begun_at d.table.now call.act was in
     let t : Sitting = owing_list c (unheld d.seats (leaving taken gone)) in
     let are : seats ≡ slice_set d.seats d.turn t = seats_is ∙ ready.seats in
     let its : y ≡ t = read_left d t y kept (subst (λ (z : List Sitting). y ≡ slice_index_or z d.turn y) are y_is) in
@@ -495,7 +511,7 @@ called_seats d place call r b y new taken gone seats left kept ready taken_is go
     let made_is : new ≡ F (record was { spare = c.spare }) (step d.table.now call).taken (unheld d.seats (leaving (step d.table.now call).taken (removed r))) =
     new_is ∙ ap (λ (z : Sitting). record z { events = z.events ++ stepped_as place call r left.taken ∷ []; hold = held_after z.hold call.act r }) its
     ∙ ap (λ (z : Recorded). F c z.taken (unheld d.seats (leaving taken gone))) left_is
-    ∙ ap (λ (z : Sitting). F z (step d.table.now call).taken (unheld d.seats (leaving taken gone))) (begun_is call.act was)
+    ∙ ap (λ (z : Sitting). F z (step d.table.now call).taken (unheld d.seats (leaving taken gone))) (begun_is d.table.now call.act was)
     ∙ ap (λ ks. F (record was { spare = c.spare }) (step d.table.now call).taken (unheld d.seats (leaving ks gone))) taken_is
     ∙ ap (λ ps. F (record was { spare = c.spare }) (step d.table.now call).taken (unheld d.seats (leaving (step d.table.now call).taken ps))) gone_is in
     ap (λ (z : List Sitting). slice_set z d.turn new) are ∙ set_set d.seats d.turn t new ∙ ap (λ (z : Sitting). slice_set d.seats d.turn z) made_is
@@ -503,6 +519,6 @@ called_seats d place call r b y new taken gone seats left kept ready taken_is go
 pub called_below : (d : Seated) (call : Call) (b : Sitting) (taken gone : List ℕ) (seats : List Sitting) → Kept d → Readies d call b taken gone
     → seats ≡ owe_each (owe_each (slice_set d.seats d.turn b) d.turn (map owed.Key taken)) d.turn (map owed.Peer gone) → d.turn < length seats
 called_below d call b taken gone seats kept ready seats_is =
-    let long = ap length (seats_is ∙ ready.seats) ∙ length-slice_set d.seats d.turn (owing_list (seat_begun call.act (seat_of d)) (unheld d.seats (leaving taken gone))) in
+    let long = ap length (seats_is ∙ ready.seats) ∙ length-slice_set d.seats d.turn (owing_list (begun_at d.table.now call.act (seat_of d)) (unheld d.seats (leaving taken gone))) in
     let under = below d kept in
     omega arith

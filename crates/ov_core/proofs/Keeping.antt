@@ -34,8 +34,8 @@ use Rattle.ov_model.proofs.KeysTaken.{turns}
 use Rattle.ov_model.specs.Lanes.{judged_in}
 use Rattle.ov_model.proofs.ReplayLemmas.{ShardJudges-push, IsJudged-judged}
 use Rattle.ov_model.proofs.Tallies.{key_stands, key_room}
-use Rattle.ov_path.specs.Desks.{Holding, NoHold, Both, PeerLeft, held_after, peer_left, stepped_as, HoldsKey, LeftPeer, IsLooked, IsDrawn, IsJudged as IsAccepted, IsSpent, MayCall, first_owed}
-use Rattle.ov_path.proofs.Going.{seen}
+use Rattle.ov_path.specs.Desks.{Holding, NoHold, Both, PeerLeft, held_after, peer_left, stepped_as, HoldsKey, LeftPeer, IsLooked, IsDrawn, IsJudged as IsAccepted, IsSpent, IsPause, MayCall, first_owed}
+use Rattle.ov_path.proofs.Seeing.{seen}
 use Rattle.ov_table.specs.Recorded.{entry_of}
 use Rattle.ov_table.proofs.Told.{told_step}
 use Rattle.ov_core.specs.Worlds.{World, Seat, next_of, seen_from, seat_stepped, after_step, shard_of, judged_next, after_replay, drawn_of, next_after, after_draw, after_key, after_peer, no_line}
@@ -105,6 +105,12 @@ accepted_not h verdict.Old = tt
 accepted_not h verdict.Below = tt
 accepted_not h verdict.Again = tt
 
+pause_not : (s : Stand) (peer : ℕ) (r : Reply) → IsPause s → NotSpent (stands_stepped s (act.KeepLook peer) r)
+pause_not stand.Replied peer r pause = looked_not r
+pause_not stand.Missed peer r pause = looked_not r
+pause_not (stand.PeerGiven h u) peer r pause = looked_not r
+pause_not _ peer r pause = absurd pause
+
 sent_not : (s : Stand) (peer inner outer : ℕ) (ping : Bool) (r : Reply) → IsDrawn s → NotSpent (stands_stepped s (act.Sent peer inner outer ping) r)
 sent_not (stand.Drew h (drawn.Id n)) peer inner outer ping r drew = tt
 sent_not _ peer inner outer ping r drew = absurd drew
@@ -122,6 +128,7 @@ call_not : (via : Addr → Addr) (w : World) (s : Seat) (a : Act) (r : Reply) �
 call_not via w s (act.Do c) r may = rw may.2 tt
 call_not via w s (act.TxLook a) r may = rw may.2 (looked_not r)
 call_not via w s (act.RxLook id key_id from) r may = rw may.2 (looked_not r)
+call_not via w s (act.KeepLook peer) r may = pause_not (stand_of s.events) peer r may.pause
 call_not via w s (act.Sent peer inner outer ping) r may = sent_not (stand_of s.events) peer inner outer ping r may.1
 call_not via w s (act.Settle peer from kind inner outer) r may = settle_not (stand_of s.events) (act.Settle peer from kind inner outer) r may.1
 call_not via w s (act.Spend peer key) r may = spend_not (stand_of s.events) peer key r may.2
@@ -137,12 +144,15 @@ release_dry w h (stand.Drew x drawn.Spent) (owed.Key k) r dry = dry
 release_dry w h (stand.Drew x (drawn.Id n)) (owed.Peer p) r dry = dry
 release_dry w h (stand.Drew x (drawn.Id n)) (owed.Key k) r dry = dry
 release_dry w h (stand.Judged x) o r dry = dry_not w h (judged_used x r) (used_not x r)
-release_dry w h stand.Replied o r dry = dry
-release_dry w h stand.Missed o r dry = dry
+release_dry w h stand.Replied (owed.Peer p) r dry = dry
+release_dry w h stand.Replied (owed.Key k) r dry = dry
+release_dry w h stand.Missed (owed.Peer p) r dry = dry
+release_dry w h stand.Missed (owed.Key k) r dry = dry
 release_dry w h (stand.Looked x) o r dry = dry
 release_dry w h (stand.Used x u) o r dry = dry
 release_dry w h (stand.KeyGiven x u) o r dry = dry
-release_dry w h (stand.PeerGiven x u) o r dry = dry
+release_dry w h (stand.PeerGiven x u) (owed.Peer p) r dry = dry
+release_dry w h (stand.PeerGiven x u) (owed.Key k) r dry = dry
 
 -- What is said to be spent gave its last id.
 spend_dry : (w : World) (h : Holding) (s : Stand) (key : ℕ) → IsDry w h s → HoldsKey h key → IsSpent s → next_of w key ≡ 4294967296
@@ -211,6 +221,7 @@ call_spent via w s (act.Spend peer spent) sound may key is =
 call_spent via w s (act.Do c) sound may key is = absurd (cc)
 call_spent via w s (act.TxLook a) sound may key is = absurd (cc)
 call_spent via w s (act.RxLook id key_id from) sound may key is = absurd (cc)
+call_spent via w s (act.KeepLook peer) sound may key is = absurd (cc)
 call_spent via w s (act.Sent peer inner outer ping) sound may key is = absurd (cc)
 call_spent via w s (act.Settle peer from kind inner outer) sound may key is = absurd (cc)
 call_spent via w s (act.Released peer) sound may key is = absurd (cc)

@@ -55,7 +55,7 @@ pub mod Falling
 pub mod Whole
 -- The world before any turn, and when a line is over.
 pub mod Newest
--- What the steps of the table answer: what a look-up finds, and how much a command takes and removes.
+-- What the steps of the table answer, and how much a command takes and removes.
 pub mod Acts
 -- The releases of what a step took and removed and nobody holds.
 pub mod Joining

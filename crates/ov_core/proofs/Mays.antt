@@ -5,6 +5,7 @@ use Rattle.std.specs.Option.{option_or}
 use Rattle.std.specs.List.{list_any}
 use Rattle.std.proofs.lemmas.Bool.{or_left, or_right, eq-eqb}
 use Rattle.ov_base.specs.Sums.{total}
+use Rattle.ov_base.specs.declared.address.Addr.{Addr}
 use Rattle.ov_model.specs.declared.act.Act.{Act}
 use Rattle.ov_model.specs.declared.act.Act.TheVariants as act
 use Rattle.ov_model.specs.declared.act.Call.{Call}
@@ -86,19 +87,20 @@ hold_key t (Both h) key there names = subst (λ k. 1 ≤ key_stands k t) names t
 hold_key t NoHold key there names = absurd names
 hold_key t (PeerLeft h) key there names = absurd names
 
-act_may : (t : Table) (w : World) (s : Seat) (a : Act) → HeldThere t s.hold → MayCall (seen_from (λ x. x) w s) a → may_act t a ≡ true
-act_may t w s (act.Do c) there may = refl
-act_may t w s (act.TxLook a) there may = refl
-act_may t w s (act.RxLook id key_id from) there may = refl
-act_may t w s (act.Sent peer inner outer ping) there may = peer_any t peer (hold_peer t s.hold peer there may.0)
-act_may t w s (act.Settle peer from k inner outer) there may = peer_any t peer (hold_peer t s.hold peer there may.0)
-act_may t w s (act.Spend peer key) there may = spend_any t peer key (hold_peer t s.hold peer there may.0) (hold_key t s.hold key there may.1)
-act_may t w s (act.Released peer) there may = absurd may
-act_may t w s (act.KeyReleased key) there may = absurd may
+act_may : (via : Addr → Addr) (t : Table) (w : World) (s : Seat) (a : Act) → HeldThere t s.hold → MayCall (seen_from via w s) a → may_act t a ≡ true
+act_may via t w s (act.Do c) there may = refl
+act_may via t w s (act.TxLook a) there may = refl
+act_may via t w s (act.RxLook id key_id from) there may = refl
+act_may via t w s (act.KeepLook peer) there may = refl
+act_may via t w s (act.Sent peer inner outer ping) there may = peer_any t peer (hold_peer t s.hold peer there may.0)
+act_may via t w s (act.Settle peer from k inner outer) there may = peer_any t peer (hold_peer t s.hold peer there may.0)
+act_may via t w s (act.Spend peer key) there may = spend_any t peer key (hold_peer t s.hold peer there may.0) (hold_key t s.hold key there may.1)
+act_may via t w s (act.Released peer) there may = absurd may
+act_may via t w s (act.KeyReleased key) there may = absurd may
 
 -- What a line may ask for, the table may make.
-pub call_may : (w : World) (i : ℕ) (s : Seat) (call : Call) → WorldSound w → slice_get w.seats i ≡ Some s → MayCall (seen_from (λ x. x) w s) call.act → May w.table.now call
-call_may w i s call sound at may = act_may w.table.now w s call.act (sound.seats i s at).there may
+pub call_may : (via : Addr → Addr) (w : World) (i : ℕ) (s : Seat) (call : Call) → WorldSound w → slice_get w.seats i ≡ Some s → MayCall (seen_from via w s) call.act → May w.table.now call
+call_may via w i s call sound at may = act_may via w.table.now w s call.act (sound.seats i s at).there may
 
 -- ---- what is owed
 

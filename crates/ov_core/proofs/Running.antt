@@ -75,7 +75,7 @@ goes_ready via s stages i u now v new staged sound others new_is on = record {
 -- A lane with nothing under way stands ready for its next line, where it has one.
 fresh_ready : (via : Addr → Addr) (w : World) (i : ℕ) (lane : Lane) → LaneReady via w i lane no_line stage.Fresh
 fresh_ready via w i lane = record {
-  goes = λ line line_is. (record { stand = refl; hold = refl; trail = record { none = refl; owes = refl } }, tt);
+  goes = λ line line_is. (record { stand = refl; hold = refl; due = refl; trail = record { none = refl; owes = refl } }, tt);
   rests = λ none. (refl, refl);
 }
 

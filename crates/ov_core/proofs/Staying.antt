@@ -91,6 +91,8 @@ shown_there t (reply.Peer p) h shows there = there
 shown_there t (reply.Peers vs) h shows there = there
 shown_there t (reply.Key k) h shows there = there
 shown_there t (reply.Removed ps) h shows there = there
+shown_there t (reply.Ticked expired due) h shows there = there
+shown_there t reply.Skip h shows there = there
 shown_there t reply.NoPeer h shows there = there
 shown_there t reply.NoKey h shows there = there
 shown_there t (reply.Settled s) h shows there = there
@@ -105,6 +107,7 @@ taken_there : (t : Table) (now : ℕ) (a : Act) (h : Holding) → may_act t a �
 taken_there t now (act.Do c) h may there = there
 taken_there t now (act.TxLook a) h may there = shown_there t (act_step t now (act.TxLook a)).reply h (reply_stands t now (act.TxLook a) may) there
 taken_there t now (act.RxLook id key_id from) h may there = shown_there t (act_step t now (act.RxLook id key_id from)).reply h (reply_stands t now (act.RxLook id key_id from) may) there
+taken_there t now (act.KeepLook peer) h may there = shown_there t (act_step t now (act.KeepLook peer)).reply h (reply_stands t now (act.KeepLook peer) may) there
 taken_there t now (act.Sent peer inner outer ping) h may there = there
 taken_there t now (act.Settle peer from k inner outer) h may there = there
 taken_there t now (act.Spend peer key) h may there = there
@@ -116,6 +119,7 @@ spares_taken : (t : Table) (now : ℕ) (a : Act) (h : Holding) → Spares a h �
 spares_taken t now (act.Do c) h spares = spares
 spares_taken t now (act.TxLook a) h spares = record { peers = λ p held. refl; keys = λ k held. refl }
 spares_taken t now (act.RxLook id key_id from) h spares = record { peers = λ p held. refl; keys = λ k held. refl }
+spares_taken t now (act.KeepLook peer) h spares = record { peers = λ p held. refl; keys = λ k held. refl }
 spares_taken t now (act.Sent peer inner outer ping) h spares = spares
 spares_taken t now (act.Settle peer from k inner outer) h spares = spares
 spares_taken t now (act.Spend peer key) h spares = spares

@@ -11,15 +11,16 @@ use Rattle.ov_model.specs.declared.line.Script.{Script}
 use Rattle.ov_model.specs.Events.{Event, Stepped, Judged, Drew, GaveKey, GavePeer, judgement_of, judgements_in}
 use Rattle.ov_model.specs.Keys.{key_of}
 use Rattle.ov_model.specs.Legal.{lane_lines}
-use Rattle.ov_model.specs.Next.{Nil, Replay, request, stand_of, see, next_owing}
+use Rattle.ov_model.specs.Next.{Nil, Replay, request, stand_of, left_of, see, next_owing}
 use Rattle.ov_model.specs.Replay.{judged}
 use Rattle.ov_model.specs.Step.{step}
 use Rattle.ov_path.specs.Desks.{NoHold, View, Grows, stepped_as}
-use Rattle.ov_path.specs.Stages.{stand_at}
+use Rattle.ov_path.specs.Stages.{stand_at, left_at}
 use Rattle.ov_path.specs.Walks.{Walking, holding_of, IsOwn, IsOpen, Trail, GoesOn as WalkGoesOn, Over as WalkOver}
 use Rattle.ov_path.specs.declared.stage.Stage.{Stage}
 use Rattle.ov_path.specs.declared.stage.Stage.TheVariants as stage
-use Rattle.ov_path.proofs.Going.{seen, walking_grows}
+use Rattle.ov_path.proofs.Going.{walking_grows}
+use Rattle.ov_path.proofs.Seeing.{seen}
 use Rattle.ov_core.specs.Worlds.{World, Seat, seen_from, seat_stepped, judged_next, drawn_of, next_of, key_given, peer_given, ask_of, happened, Makes}
 use Rattle.ov_core.specs.Sessions.{Session, Lane, UnderWay, place_of, IsOver, world_after, Goes, answered, Answers, Turn, goes, answers, Turns, in_order, GoesOn, RunsLine, RunsLines}
 use Rattle.ov_core.specs.Sounds.{WorldSound, Sound, IsOf}
@@ -128,6 +129,7 @@ begun_stage via place line (stage.Judged h packet) es e w trail is = tt
 begun_stage via place line (stage.Used h x a) es e w trail is = tt
 begun_stage via place line (stage.KeyGiven h x a) es e w trail is = tt
 begun_stage via place line (stage.PeerGiven h x a) es e w trail is = tt
+begun_stage via place line (stage.Ticking p q) es e w trail is = tt
 
 -- A replay step is asked for where the line has none yet.
 judges_first : (e : Event) (es : List Event) → ((key id : ℕ) → request e ≡ Replay key id → judgements_in es ≡ []) → JudgesFirst e es
@@ -149,7 +151,7 @@ module _ {via : Addr → Addr} {s : Session} {i : ℕ} {u : UnderWay s i} {at : 
   asked_before took =
       let n = next_seat s.world i u.seat event v took.makes in
       let known = asks_known via (place_of i u.lane) u.line (seen_from via s.world u.seat) at u.seat.owing (key_of v.table.journal) took.walking.trail n.grows in
-      took.asked ∙ rw took.walking.stand known
+      took.asked ∙ rw (took.walking.stand, took.walking.due) known
 
   took_world : Took via s i u at event v → v ≡ world_after via s i u
   took_world took = happened_by s.world i u.seat (place_of i u.lane) u.line event v (ask_of via s.world u.seat u.line) took.makes took.own (asked_before took)
@@ -165,7 +167,7 @@ module _ {via : Addr → Addr} {s : Session} {i : ℕ} {u : UnderWay s i} {at : 
         after_is = ap (in_world s) (took_world took);
         seat = t;
         seat_is = t_is;
-        more = λ over. open_asks via (place_of i u.lane) u.line (seen_from via v t) later t.owing on.0.trail begun on.1 (subst (λ x. IsOver (next_owing via (key_of v.table.journal) u.line.deed x t.owing)) on.0.stand over);
+        more = λ over. open_asks via (place_of i u.lane) u.line (seen_from via v t) later t.owing on.0.trail begun on.1 (subst (λ x. IsOver (next_owing via (key_of v.table.journal) u.line.deed (stand_at later) x t.owing)) on.0.due (subst (λ x. IsOver (next_owing via (key_of v.table.journal) u.line.deed x (left_of t.events) t.owing)) on.0.stand over));
       }
 
   -- The line is over after its event.
@@ -173,7 +175,7 @@ module _ {via : Addr → Addr} {s : Session} {i : ℕ} {u : UnderWay s i} {at : 
   took_answers t a took t_is over =
       let n = next_seat s.world i u.seat event v took.makes in
       let is : t ≡ n.new = new_seat t took t_is in
-      let asked : request n.made ≡ next_owing via (key_of s.world.table.journal) u.line.deed (stand_at at) u.seat.owing = n.asked ∙ asked_before took ∙ rw took.walking.stand refl in
+      let asked : request n.made ≡ next_owing via (key_of s.world.table.journal) u.line.deed (stand_at at) (left_at at) u.seat.owing = n.asked ∙ asked_before took ∙ rw (took.walking.stand, took.walking.due) refl in
       let left : hold_by (holding_of at) n.made ≡ NoHold = rw (← took.walking.hold) (sym n.hold ∙ sym (ap (λ (x : Seat). x.hold) is) ∙ over.hold) in
       let stands : stand_of t.events ≡ see (stand_at at) n.made = ap (λ (x : Seat). stand_of x.events) is ∙ rw n.events (seen (stand_at at) u.seat.events n.made took.walking.stand) in
       record {
@@ -182,7 +184,7 @@ module _ {via : Addr → Addr} {s : Session} {i : ℕ} {u : UnderWay s i} {at : 
         between_is = took_world took;
         seat = t;
         seat_is = t_is;
-        over = rw (over.owes, stands) (over_next via (place_of i u.lane) u.line (seen_from via s.world u.seat) at u.seat.owing n.made (key_of s.world.table.journal) (key_of v.table.journal) took.walking.trail took.is_open refl asked left);
+        over = rw (over.owes, stands, over.left) (over_next via (place_of i u.lane) u.line (seen_from via s.world u.seat) at u.seat.owing n.made (key_of s.world.table.journal) (key_of v.table.journal) took.walking.trail took.is_open refl asked left);
         answer = a;
         path = over.path;
         drawn = over.drawn;
@@ -193,7 +195,7 @@ module _ {via : Addr → Addr} {s : Session} {i : ℕ} {u : UnderWay s i} {at : 
   pub took_sound : Sound via s → WorldSound v → Took via s i u at event v → Sound via (in_world s v)
   took_sound sound world took =
       sound_event via s i u.lane u.line.at event v sound u.lane_is (record { seat = u.seat; seat_is = u.seat_is; makes = took.makes }) took.own
-      (judges_first event u.seat.events (λ key id is. judged_first via (place_of i u.lane) u.line (seen_from via s.world u.seat) at u.seat.owing (key_of s.world.table.journal) key id took.walking.trail (sym is ∙ asked_before took ∙ rw took.walking.stand refl))) world
+      (judges_first event u.seat.events (λ key id is. judged_first via (place_of i u.lane) u.line (seen_from via s.world u.seat) at u.seat.owing (key_of s.world.table.journal) key id took.walking.trail (sym is ∙ asked_before took ∙ rw (took.walking.stand, took.walking.due) refl))) world
 
 -- ---- answers
 

@@ -3,7 +3,7 @@ use Rattle.std.specs.Prelude.{ℕ, ◌+◌, ◌*◌, length, get_or}
 use Rattle.ov_model.specs.declared.stand.Stand.{Stand}
 use Rattle.ov_model.specs.declared.stand.Stand.TheVariants as stand
 use Rattle.ov_path.specs.declared.stage.Stage.{Stage}
-use Rattle.ov_path.specs.Stages.{stand_at}
+use Rattle.ov_path.specs.Stages.{stand_at, left_at}
 use Rattle.ov_core.specs.Worlds.{World, no_line}
 
 -- How many kinds of events may still come, by the stand.
@@ -19,6 +19,7 @@ stages_left stand.Missed = 0
 stages_left (stand.PeerGiven h u) = 0
 
 -- A number that falls with each turn of lane i's line, which stands at a stage, from its second turn on: a release
--- takes one of those that are owed, and each other event goes to a later stage and leaves at most one release owed.
+-- takes one of those that are owed, the look-up of a due peer leaves one less of them, and each other event goes to
+-- a later stage; but for a release, an event leaves at most one release owed.
 abbrev pub turns_left : World → ℕ → Stage → ℕ
-turns_left w i at = 2 * stages_left (stand_at at) + length (get_or w.seats i no_line).owing
+turns_left w i at = 10 * length (left_at at) + 2 * stages_left (stand_at at) + length (get_or w.seats i no_line).owing

@@ -1,5 +1,5 @@
 -- The seats of the lanes, as the world keeps them, and what each call makes of the world.
-use Rattle.std.specs.Prelude.{ℕ, zero, suc, ◌-◌, ◌%◌, if◌then◌else◌, ◌≡◌, ◌≤◌, ◌<◌, List, [], ◌∷◌, ◌++◌, length, map, filter, get_or, slice_get, slice_set, Bool, true, false, not, ◌==◌, Some}
+use Rattle.std.specs.Prelude.{ℕ, zero, suc, ◌+◌, ◌-◌, ◌*◌, ◌%◌, if◌then◌else◌, ◌≡◌, ◌≤◌, ◌<◌, List, [], ◌∷◌, ◌++◌, length, map, filter, get_or, slice_get, slice_set, Bool, true, false, not, ◌==◌, Some}
 use Rattle.std.specs.List.{list_any}
 use Rattle.ov_base.specs.declared.address.Addr.{Addr}
 use Rattle.ov_model.specs.declared.line.Route.{Route}
@@ -7,6 +7,7 @@ use Rattle.ov_model.specs.declared.place.Place.{Place}
 use Rattle.ov_model.specs.declared.act.Act.{Act}
 use Rattle.ov_model.specs.declared.act.Act.TheVariants as act
 use Rattle.ov_model.specs.declared.act.Call.{Call}
+use Rattle.ov_model.specs.declared.command.Command.TheVariants as command
 use Rattle.ov_model.specs.declared.hold.Given.{Given}
 use Rattle.ov_model.specs.declared.hold.Given.TheVariants as given
 use Rattle.ov_model.specs.declared.hold.Owed.{Owed}
@@ -165,24 +166,41 @@ leaving taken gone = map owed.Key taken ++ map owed.Peer gone
 abbrev pub unheld : List Sitting → List Owed → List Owed
 unheld seats os = filter (λ o. not (is_held seats o)) os
 
--- A line begins with a step: the others come while it holds.
-abbrev pub begins_line : Act → Bool
-begins_line (act.Do c) = true
-begins_line (act.TxLook a) = true
-begins_line (act.RxLook id key_id from) = true
-begins_line _ = false
+-- A step before which a line holds nothing: a command or a look-up. The others come while it holds.
+abbrev pub takes_room : Act → Bool
+takes_room (act.Do c) = true
+takes_room (act.TxLook a) = true
+takes_room (act.RxLook id key_id from) = true
+takes_room (act.KeepLook peer) = true
+takes_room _ = false
 
--- The seat as it takes room where a line begins: for two keys and a peer, which a command removed.
-abbrev pub seat_begun : Act → Sitting → Sitting
-seat_begun a s = if begins_line a then record s { spare = 3 } else s
+-- Whether a step may remove all live peers. The others take two keys out of their slots and remove one peer at
+-- most.
+abbrev pub removes_all : Act → Bool
+removes_all (act.Do command.Tick) = true
+removes_all (act.Do command.Down) = true
+removes_all _ = false
+
+-- For how many releases a step takes room: for two keys and a peer, and three more for each live
+-- peer where it may remove them all.
+abbrev pub room_of : Table → Act → ℕ
+room_of t a = if removes_all a then 3 + 3 * length t.live else 3
+
+-- The seat as it takes room, where a step does.
+abbrev pub seat_begun : (room : ℕ) → Act → Sitting → Sitting
+seat_begun room a s = if takes_room a then record s { spare = room } else s
+
+-- The seat of a lane as a step of the table finds it: with room.
+abbrev pub begun_at : Table → Act → Sitting → Sitting
+begun_at t a s = seat_begun (room_of t a) a s
 
 -- The seat after a step of the table: its event, what a look-up holds, and what the lane owes.
-abbrev pub seat_called : Sitting → Place → Call → Reply → (taken : List ℕ) → (joined : List Owed) → Sitting
-seat_called s place call r taken joined = record {
+abbrev pub seat_called : Table → Sitting → Place → Call → Reply → (taken : List ℕ) → (joined : List Owed) → Sitting
+seat_called t s place call r taken joined = record {
   events = s.events ++ stepped_as place call r taken ∷ [];
   hold = held_after s.hold call.act r;
   owing = s.owing ++ joined;
-  spare = (seat_begun call.act s).spare - length joined;
+  spare = (begun_at t call.act s).spare - length joined;
 }
 
 -- After a step of the table: the counter of a key that was made, and the seat of the lane.
@@ -190,7 +208,7 @@ abbrev pub after_call : Seated → Place → Call → Reply → Seated
 after_call d place call r = record d {
   table = stepped d.table place call;
   next = d.next ++ map (λ _. d.first) (key_made_by call.act r);
-  seats = slice_set d.seats d.turn (seat_called (seat_of d) place call r (step d.table.now call).taken (unheld d.seats (leaving (step d.table.now call).taken (removed r))));
+  seats = slice_set d.seats d.turn (seat_called d.table.now (seat_of d) place call r (step d.table.now call).taken (unheld d.seats (leaving (step d.table.now call).taken (removed r))));
 }
 
 -- After a replay step, which the shard of the key has made.

@@ -20,7 +20,7 @@ impl Hold {
         ensures { holding result ≡ held_after (holding self) act.now reply.now }
     {
         match act {
-            Act::TxLook(_) | Act::RxLook { .. } => self.looked(reply),
+            Act::TxLook(_) | Act::RxLook { .. } | Act::KeepLook(_) => self.looked(reply),
             Act::Do(_)
             | Act::Sent { .. }
             | Act::Settle { .. }

@@ -1,5 +1,5 @@
 //! A lane's seat: what its present line has done and holds, and what it owes. A line takes the room for what it
-//! may come to owe where it begins, so that no release wants memory.
+//! may come to owe before a command and before a look-up, so that no release wants memory.
 
 ghost use Rattle.std.specs.Prelude.{◌≡◌, ◌<◌, ◌-◌, [], ◌∷◌, ◌++◌, OnOk, OnErr, IsSome};
 ghost use Rattle.ov_core.specs.Pasts.{event_of, gave};
@@ -12,23 +12,21 @@ use ov_base::Memory;
 use ov_model::{Act, Call, Given, Owed, Place, Reply};
 use ov_table::Table;
 use std::alloc::Global;
+use std::collections::VecDeque;
 use std::marker::Model;
-
-/// What a line may come to owe: two keys and a peer, which a command removed.
-const MOST_OWED: usize = 3;
 
 /// What a lane's present line has done, holds and owes.
 #[derive(Drop)]
 pub struct Seat {
     past: Past,
     hold: Hold,
-    owing: Vec<Owed>,
+    owing: VecDeque<Owed>,
     spare: usize,
 }
 
 impl Model for Seat {
-    ghost use Rattle.std.specs.Prelude.{◌≤◌, ◌+◌, vec_len};
-    ghost use Rattle.std.specs.Vec.{vec_capacity};
+    ghost use Rattle.std.specs.Prelude.{◌≤◌, ◌+◌};
+    ghost use Rattle.std.specs.VecDeque.{deque_len, deque_capacity};
     ghost use Rattle.ov_core.specs.Seats as seats;
 
     ghost Value = { seats.Sitting };
@@ -40,7 +38,7 @@ impl Model for Seat {
       spare = s.spare;
     } };
 
-    ghost invariant = { λ s. vec_len s.owing + s.spare ≤ vec_capacity s.owing };
+    ghost invariant = { λ s. deque_len s.owing + s.spare ≤ deque_capacity s.owing };
 }
 
 impl Seat {
@@ -51,7 +49,7 @@ impl Seat {
         Seat {
             past: Past::new(),
             hold: Hold::Nothing,
-            owing: Vec::new(alloc),
+            owing: VecDeque::new(alloc),
             spare: 0,
         }
     }
@@ -80,17 +78,18 @@ impl Seat {
     pub fn owed(&self) -> Option<Owed>
         ensures { result ≡ first_owed self.now.owing }
     {
-        self.owing.as_slice().first().copied()
+        self.owing.front().copied()
     }
 
-    /// Takes the room for what is owed where a step begins a line. After Memory the line is as it was.
-    pub fn begin(&mut self, act: &Act) -> Result<(), Memory>
-        ensures ok { OnOk result (self.new ≡ spec.seat_begun act.now self.old) }
+    /// Takes the room for as many releases as a command or a look-up may come to owe. After Memory the line is as
+    /// it was.
+    pub fn begin(&mut self, act: &Act, room: usize) -> Result<(), Memory>
+        ensures ok { OnOk result (self.new ≡ spec.seat_begun room act.now self.old) }
         ensures err { OnErr result (self.new ≡ self.old) }
     {
-        if begins_line(act) {
-            self.owing.reserve(MOST_OWED)?;
-            self.spare = MOST_OWED;
+        if takes_room(act) {
+            self.owing.reserve(room)?;
+            self.spare = room;
         }
         Ok(())
     }
@@ -103,7 +102,9 @@ impl Seat {
           spare = self.old.spare - 1;
         } }
     {
-        self.owing.push_reserved(owed);
+        let Ok(()) = self.owing.push_back(owed) else {
+            unreachable!();
+        };
         self.spare -= 1;
     }
 
@@ -160,7 +161,7 @@ impl Seat {
           owing = after_first self.old.owing;
         } }
     {
-        self.owing.remove(0);
+        self.owing.pop_front();
         self.past.push(Happening::stepped(place, call, reply, left));
     }
 
@@ -172,12 +173,12 @@ impl Seat {
     }
 }
 
-/// Whether a line begins with a step: the others come while it holds.
-fn begins_line(act: &Act) -> bool
-    ensures { result ≡ spec.begins_line act.now }
+/// Whether a step is a command or a look-up: the others come while a line holds or owes.
+fn takes_room(act: &Act) -> bool
+    ensures { result ≡ spec.takes_room act.now }
 {
     match act {
-        Act::Do(_) | Act::TxLook(_) | Act::RxLook { .. } => true,
+        Act::Do(_) | Act::TxLook(_) | Act::RxLook { .. } | Act::KeepLook(_) => true,
         Act::Sent { .. }
         | Act::Settle { .. }
         | Act::Spend { .. }

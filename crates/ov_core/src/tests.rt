@@ -4,6 +4,8 @@ ghost use Rattle.std.specs.Prelude.{◌≡◌, ◌<◌, IfOk};
 ghost use Rattle.std.specs.List.{AllByRecursion};
 ghost use Rattle.ov_model.specs.Sizes.{Fits};
 
+mod ticks;
+
 use crate::{run_schedule, run_serially};
 use ov_base::{Addr, Boxed, ListOf, Memory, Octets, Transport};
 use ov_model::netlink::NO_ATTRIBUTES;

@@ -19,7 +19,8 @@ use crate::seat::Seat;
 use ov_base::{Addr, ListOf, Memory};
 use ov_keys::KeyPair;
 use ov_model::{
-    Act, Call, Drawn, Entry, Given, Note, Owed, Place, ReplayEntry, Reply, Route, Verdict, via_of,
+    Act, Call, Command, Drawn, Entry, Given, Note, Owed, Place, ReplayEntry, Reply, Route, Verdict,
+    via_of,
 };
 use ov_path::Desk;
 use ov_replay::Shard;
@@ -29,6 +30,9 @@ use std::marker::Model;
 
 /// The number of replay shards: a key's is its serial modulo this.
 const SHARDS: u32 = 8;
+
+/// What a line may come to owe for a peer: two keys and the peer.
+const MOST_OWED: usize = 3;
 
 /// The number of lanes.
 pub const LANES: u32 = 64;
@@ -135,7 +139,8 @@ impl Desk for World {
 
     fn table(&mut self, place: Place, call: &Call) -> Result<Reply, Memory> {
         self.next.reserve(1)?;
-        self.seats[self.turn].begin(&call.act)?;
+        let room = room_of(&self.table, &call.act);
+        self.seats[self.turn].begin(&call.act, room)?;
         let reply = self.table.step(place, call)?;
         count_key(&mut self.next, self.first, &call.act, &reply);
         owe_taken(&mut self.seats, self.turn, self.table.taken());
@@ -215,6 +220,28 @@ impl World {
     }
 }
 
+/// For how many releases a step takes room.
+fn room_of(table: &Table, act: &Act) -> usize
+    ensures { result ≡ spec.room_of table.now.now act.now }
+{
+    if removes_all(act) {
+        MOST_OWED + MOST_OWED * table.live_count()
+    } else {
+        MOST_OWED
+    }
+}
+
+/// Whether a step may remove all live peers.
+fn removes_all(act: &Act) -> bool
+    ensures { result ≡ spec.removes_all act.now }
+{
+    match act {
+        Act::Do(Command::Tick) => true,
+        Act::Do(Command::Down) => true,
+        _ => false,
+    }
+}
+
 /// Whether what was given back may be let go: it is on its way out and no lane holds it.
 fn last_of(table: &Table, seats: &[Seat], owed: Owed) -> Given
     ensures { result ≡ spec.given_by table.now.now seats.now owed }
@@ -275,6 +302,7 @@ fn removed_by(reply: &Reply) -> &[u32]
 {
     match reply {
         Reply::Removed(peers) => peers.as_slice(),
+        Reply::Ticked { expired, .. } => expired.as_slice(),
         _ => &[],
     }
 }

@@ -16,3 +16,5 @@ pub mod Back
 pub mod Listed
 -- A live peer that is taken out at the place of its serial, changed and put back, and what an index is then.
 pub mod Returned
+-- What is asked of the live peers, with and without the id by which it is put in order.
+pub mod Asked

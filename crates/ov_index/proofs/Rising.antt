@@ -1,15 +1,14 @@
 -- Lists that rise strictly by a number: two with the same members are one, and a sort of members whose numbers differ
 -- makes the one that the definition names by insertion.
-use Rattle.std.proofs.Common.{zero, suc, ◌<◌, ◌≤◌, ℕ, ◌≡◌, ◌∙◌, refl, ap₂, sym, subst, List, [], ◌∷◌, Bool, true, false, if◌then◌else◌, ◌==◌, arith, inl, inr, ◌⊎◌}
-use Rattle.std.specs.Prelude.{⊤, Some, None, map, nat_lt, slice_get}
+use Rattle.std.proofs.Common.{zero, suc, ◌<◌, ◌≤◌, ℕ, ◌≡◌, ◌∙◌, refl, ap, ap₂, sym, subst, List, [], ◌∷◌, Bool, true, false, cond, if◌then◌else◌, ◌==◌, arith, inl, inr, ◌⊎◌}
+use Rattle.std.specs.Prelude.{⊤, Some, None, map, filter, nat_lt, slice_get}
 use Rattle.std.specs.List.{AllByRecursion, IsDistinct}
 use Rattle.std.specs.List.Sorted.{IsPermutation, IsNonDecreasingBy}
 use Rattle.std.proofs.lemmas.Bool.Decides.{nat_tests}
 use Rattle.std.proofs.lemmas.List.Sorted.{IsPermutation-refl, IsPermutation-sym, IsPermutation-cons, IsPermutation-trans, IsPermutation-middle, IsPermutation-map, All-permutation}
 use Rattle.std.proofs.lemmas.List.Elements.{All-from_recursion, recursion_from_All}
 use Rattle.std.proofs.lemmas.Map.Keys.{IsDistinct-head, IsDistinct-tail, IsDistinct-cons, IsDistinct-IsPermutation}
-use Rattle.ov_model.specs.Tables.{Peer, view_of, put_by_id, by_rising_id}
-use Rattle.ov_model.specs.declared.reply.PeerView.{PeerView}
+use Rattle.ov_model.specs.Tables.{Peer, put_by_id, by_rising_id}
 use Rattle.ov_index.specs.Index.{present, IsIndex}
 use Rattle.ov_index.specs.declared.name.Name.TheVariants.{Id}
 use Rattle.ov_index.proofs.Held.{Owner, Homes, Places}
@@ -44,7 +43,7 @@ all_itself (x ∷ xs) = (inl refl, weaker (λ z. In z xs) (λ z. In z (x ∷ xs)
 all_moved : {X : Type 0} (P : X → Type 0) (xs ys : List X) → IsPermutation xs ys → AllByRecursion P xs → AllByRecursion P ys
 all_moved P xs ys p all = recursion_from_All P ys (All-permutation P xs ys p (All-from_recursion P xs all))
 
-in_moved : {X : Type 0} (xs ys : List X) (z : X) → IsPermutation xs ys → In z xs → In z ys
+pub in_moved : {X : Type 0} (xs ys : List X) (z : X) → IsPermutation xs ys → In z xs → In z ys
 in_moved xs ys z p there = all_in (λ w. In w ys) xs z (all_moved (λ w. In w ys) ys xs (IsPermutation-sym xs ys p) (all_itself ys)) there
 
 -- Two lists that rise strictly and have the same members are equal.
@@ -112,56 +111,113 @@ rising_rises (p ∷ ps) once = put_rises p (by_rising_id ps) (rising_rises ps (I
 
 -- ---- by a sort
 
-abbrev pub view_id : PeerView → ℕ
-view_id v = v.id.number
+-- What is made of each peer has its id.
+abbrev Ids : {X : Type 0} → (Peer → X) → (X → ℕ) → Type 0
+Ids f n = (p : Peer) → n (f p) ≡ id_of p
 
-abbrev pub same_view_id : PeerView → PeerView → Bool
-same_view_id v w = v.id.number == w.id.number
+abbrev same_by : {X : Type 0} → (X → ℕ) → X → X → Bool
+same_by n v w = n v == n w
 
-all_views : (n : ℕ) (ps : List Peer) → AllByRecursion (λ q. n < q.id.number) ps → AllByRecursion (λ v. n < view_id v) (map view_of ps)
-all_views n [] all = tt
-all_views n (p ∷ ps) all = (all.0, all_views n ps all.1)
+all_made : {X : Type 0} (f : Peer → X) (n : X → ℕ) → Ids f n → (m : ℕ) (ps : List Peer) → AllByRecursion (λ q. m < id_of q) ps → AllByRecursion (λ v. m < n v) (map f ps)
+all_made f n ids m [] all = tt
+all_made f n ids m (p ∷ ps) all = (subst (λ k. m < k) (sym (ids p)) all.0, all_made f n ids m ps all.1)
 
-views_rise : (ps : List Peer) → Rises id_of ps → Rises view_id (map view_of ps)
-views_rise [] rise = tt
-views_rise (p ∷ ps) rise = (all_views p.id.number ps rise.0, views_rise ps rise.1)
+made_rise : {X : Type 0} (f : Peer → X) (n : X → ℕ) → Ids f n → (ps : List Peer) → Rises id_of ps → Rises n (map f ps)
+made_rise f n ids [] rise = tt
+made_rise f n ids (p ∷ ps) rise = (subst (λ m. AllByRecursion (λ v. m < n v) (map f ps)) (sym (ids p)) (all_made f n ids (id_of p) ps rise.0), made_rise f n ids ps rise.1)
 
-views_differ : (n : ℕ) (ps : List Peer) → AllByRecursion (λ q. (n == q.id.number) ≡ false) ps → AllByRecursion (λ v. (n == view_id v) ≡ false) (map view_of ps)
-views_differ n [] all = tt
-views_differ n (p ∷ ps) all = (all.0, views_differ n ps all.1)
+made_differ : {X : Type 0} (f : Peer → X) (n : X → ℕ) → Ids f n → (m : ℕ) (ps : List Peer) → AllByRecursion (λ q. (m == id_of q) ≡ false) ps → AllByRecursion (λ v. (m == n v) ≡ false) (map f ps)
+made_differ f n ids m [] all = tt
+made_differ f n ids m (p ∷ ps) all = (subst (λ k. (m == k) ≡ false) (sym (ids p)) all.0, made_differ f n ids m ps all.1)
 
-views_once : (ps : List Peer) → IsDistinct same_id ps → IsDistinct same_view_id (map view_of ps)
+made_once : {X : Type 0} (f : Peer → X) (n : X → ℕ) → Ids f n → (ps : List Peer) → IsDistinct same_id ps → IsDistinct (same_by n) (map f ps)
 unfolding IsDistinct
-views_once [] once = tt
-views_once (p ∷ ps) once = IsDistinct-cons same_view_id (view_of p) (map view_of ps) (views_differ p.id.number ps (IsDistinct-head same_id p ps once)) (views_once ps (IsDistinct-tail same_id p ps once))
+made_once f n ids [] once = tt
+made_once f n ids (p ∷ ps) once = IsDistinct-cons (same_by n) (f p) (map f ps) (subst (λ m. AllByRecursion (λ v. (m == n v) ≡ false) (map f ps)) (sym (ids p)) (made_differ f n ids (id_of p) ps (IsDistinct-head same_id p ps once))) (made_once f n ids ps (IsDistinct-tail same_id p ps once))
 
 -- Numbers that don't fall and differ rise.
-sorted_rises : (vs : List PeerView) → IsNonDecreasingBy view_id vs → IsDistinct same_view_id vs → Rises view_id vs
-sorted_rises [] up once = tt
-sorted_rises (v ∷ vs) up once =
-    let least : AllByRecursion (λ w. view_id v ≤ view_id w) vs = recursion_from_All (λ w. view_id v ≤ view_id w) vs (λ k d within. up 0 (suc k) d (omega arith) (omega arith)) in
-    let differ : AllByRecursion (λ w. same_view_id v w ≡ false) vs = IsDistinct-head same_view_id v vs once in
-    let above : AllByRecursion (λ w. view_id v < view_id w) vs = weaker (λ w. (view_id v ≤ view_id w) × (same_view_id v w ≡ false)) (λ w. view_id v < view_id w)
-    (λ w is. let most : view_id v ≤ view_id w = is.0 in let other : (view_id v == view_id w) ≡ false = is.1 in grind (arith, nat_tests))
-    vs (both (λ w. view_id v ≤ view_id w) (λ w. same_view_id v w ≡ false) vs least differ) in
-    (above, sorted_rises vs (λ i j d le within. up (suc i) (suc j) d (omega arith) (omega arith)) (IsDistinct-tail same_view_id v vs once))
+sorted_rises : {X : Type 0} (n : X → ℕ) (vs : List X) → IsNonDecreasingBy n vs → IsDistinct (same_by n) vs → Rises n vs
+sorted_rises n [] up once = tt
+sorted_rises n (v ∷ vs) up once =
+    let least : AllByRecursion (λ w. n v ≤ n w) vs = recursion_from_All (λ w. n v ≤ n w) vs (λ k d within. up 0 (suc k) d (omega arith) (omega arith)) in
+    let differ : AllByRecursion (λ w. same_by n v w ≡ false) vs = IsDistinct-head (same_by n) v vs once in
+    let above : AllByRecursion (λ w. n v < n w) vs = weaker (λ w. (n v ≤ n w) × (same_by n v w ≡ false)) (λ w. n v < n w)
+    (λ w is. let most : n v ≤ n w = is.0 in let other : (n v == n w) ≡ false = is.1 in grind (arith, nat_tests))
+    vs (both (λ w. n v ≤ n w) (λ w. same_by n v w ≡ false) vs least differ) in
+    (above, sorted_rises n vs (λ i j d le within. up (suc i) (suc j) d (omega arith) (omega arith)) (IsDistinct-tail (same_by n) v vs once))
 
-flips : (v w : PeerView) → same_view_id v w ≡ same_view_id w v
-flips v w = elim (view_id v == view_id w) as (λ b. (view_id v == view_id w) ≡ b → b ≡ (view_id w == view_id v)) [
+flips : {X : Type 0} (n : X → ℕ) (v w : X) → same_by n v w ≡ same_by n w v
+flips n v w = elim (n v == n w) as (λ b. (n v == n w) ≡ b → b ≡ (n w == n v)) [
   | true ↦ λ is. grind (arith, nat_tests)
   | false ↦ λ is. grind (arith, nat_tests)
 ] refl
 
--- A sort of the views of peers whose ids differ gives the views of the peers by rising id.
-pub sorted_views : (ps : List Peer) (vs : List PeerView) → IsDistinct same_id ps → IsPermutation (map view_of ps) vs → IsNonDecreasingBy view_id vs → vs ≡ map view_of (by_rising_id ps)
-sorted_views ps vs once moved up =
-    let named : List PeerView = map view_of (by_rising_id ps) in
-    let same : IsPermutation (map view_of ps) named = IsPermutation-map view_of ps (by_rising_id ps) (rising_moves ps) in
-    let there : IsPermutation vs named = IsPermutation-trans _ _ _ (IsPermutation-sym (map view_of ps) vs moved) same in
-    rising_once view_id vs named
-    (sorted_rises vs up (IsDistinct-IsPermutation same_view_id flips (map view_of ps) vs moved (views_once ps once)))
-    (views_rise (by_rising_id ps) (rising_rises ps once))
+-- A sort by the id of what is made of peers whose ids differ gives what is made of the peers by rising id.
+pub sorted_made : {X : Type 0} (f : Peer → X) (n : X → ℕ) → Ids f n → (ps : List Peer) (vs : List X) → IsDistinct same_id ps → IsPermutation (map f ps) vs → IsNonDecreasingBy n vs → vs ≡ map f (by_rising_id ps)
+sorted_made {X} f n ids ps vs once moved up =
+    let named : List X = map f (by_rising_id ps) in
+    let same : IsPermutation (map f ps) named = IsPermutation-map f ps (by_rising_id ps) (rising_moves ps) in
+    let there : IsPermutation vs named = IsPermutation-trans _ _ _ (IsPermutation-sym (map f ps) vs moved) same in
+    rising_once n vs named
+    (sorted_rises n vs up (IsDistinct-IsPermutation (same_by n) (flips n) (map f ps) vs moved (made_once f n ids ps once)))
+    (made_rise f n ids (by_rising_id ps) (rising_rises ps once))
     (λ z. in_moved vs named z there) (λ z. in_moved named vs z (IsPermutation-sym vs named there))
+
+-- ---- some of them
+
+all_kept : {X : Type 0} (P : X → Type 0) (test : X → Bool) (xs : List X) → AllByRecursion P xs → AllByRecursion P (filter test xs)
+all_kept P test [] all = tt
+all_kept P test (x ∷ xs) all = elim (test x) as (λ b. AllByRecursion P (cond b (x ∷ filter test xs) (filter test xs))) [ true ↦ (all.0, all_kept P test xs all.1) | false ↦ all_kept P test xs all.1 ]
+
+-- Those that pass a test differ as all do.
+pub once_kept : (test : Peer → Bool) (ps : List Peer) → IsDistinct same_id ps → IsDistinct same_id (filter test ps)
+once_kept test [] once = once
+once_kept test (p ∷ ps) once =
+    let later : IsDistinct same_id (filter test ps) = once_kept test ps (IsDistinct-tail same_id p ps once) in
+    elim (test p) as (λ b. IsDistinct same_id (cond b (p ∷ filter test ps) (filter test ps))) [
+      | true ↦ IsDistinct-cons same_id p (filter test ps) (all_kept (λ q. same_id p q ≡ false) test ps (IsDistinct-head same_id p ps once)) later
+      | false ↦ later
+    ]
+
+put_first : (p : Peer) (qs : List Peer) → AllByRecursion (λ q. p.id.number < q.id.number) qs → put_by_id p qs ≡ p ∷ qs
+put_first p [] all = refl
+put_first p (q ∷ qs) all =
+    let below : p.id.number < q.id.number = all.0 in
+    let is : nat_lt p.id.number q.id.number ≡ true = grind (arith, nat_tests) in
+    rw is refl
+
+put_kept : (test : Peer → Bool) (p : Peer) (qs : List Peer) → Rises id_of qs → filter test (put_by_id p qs) ≡ cond (test p) (put_by_id p (filter test qs)) (filter test qs)
+put_kept test p [] rise = refl
+put_kept test p (q ∷ qs) rise =
+    elim (nat_lt p.id.number q.id.number) as (λ b. nat_lt p.id.number q.id.number ≡ b → filter test (if b then p ∷ q ∷ qs else (q ∷ put_by_id p qs)) ≡ cond (test p) (put_by_id p (filter test (q ∷ qs))) (filter test (q ∷ qs))) [
+      | true ↦ λ is.
+          let below : p.id.number < q.id.number = grind (arith, nat_tests) in
+          let all : AllByRecursion (λ y. p.id.number < y.id.number) (q ∷ qs) = (below, weaker (λ y. q.id.number < y.id.number) (λ y. p.id.number < y.id.number) (λ y above. omega (arith, below, above)) qs rise.0) in
+          ap (λ ys. cond (test p) ys (filter test (q ∷ qs))) (sym (put_first p (filter test (q ∷ qs)) (all_kept (λ y. p.id.number < y.id.number) test (q ∷ qs) all)))
+      | false ↦ λ is.
+          let later : filter test (put_by_id p qs) ≡ cond (test p) (put_by_id p (filter test qs)) (filter test qs) = put_kept test p qs rise.1 in
+          let kept : q ∷ filter test (put_by_id p qs) ≡ cond (test p) (put_by_id p (q ∷ filter test qs)) (q ∷ filter test qs) = rw is
+          (elim (test p) as (λ b. filter test (put_by_id p qs) ≡ cond b (put_by_id p (filter test qs)) (filter test qs) → q ∷ filter test (put_by_id p qs) ≡ cond b (q ∷ put_by_id p (filter test qs)) (q ∷ filter test qs)) [
+            | true ↦ λ e. ap (λ ys. q ∷ ys) e
+            | false ↦ λ e. ap (λ ys. q ∷ ys) e
+          ] later) in
+          elim (test q) as (λ b. cond b (q ∷ filter test (put_by_id p qs)) (filter test (put_by_id p qs)) ≡ cond (test p) (put_by_id p (cond b (q ∷ filter test qs) (filter test qs))) (cond b (q ∷ filter test qs) (filter test qs))) [
+            | true ↦ kept
+            | false ↦ later
+          ]
+    ] refl
+
+-- Those that pass a test are by rising id as all are.
+pub rising_kept : (test : Peer → Bool) (ps : List Peer) → IsDistinct same_id ps → by_rising_id (filter test ps) ≡ filter test (by_rising_id ps)
+rising_kept test [] once = refl
+rising_kept test (p ∷ ps) once =
+    let rest : IsDistinct same_id ps = IsDistinct-tail same_id p ps once in
+    let later : by_rising_id (filter test ps) ≡ filter test (by_rising_id ps) = rising_kept test ps rest in
+    let put : filter test (put_by_id p (by_rising_id ps)) ≡ cond (test p) (put_by_id p (filter test (by_rising_id ps))) (filter test (by_rising_id ps)) = put_kept test p (by_rising_id ps) (rising_rises ps rest) in
+    elim (test p) as (λ b. filter test (put_by_id p (by_rising_id ps)) ≡ cond b (put_by_id p (filter test (by_rising_id ps))) (filter test (by_rising_id ps)) → by_rising_id (cond b (p ∷ filter test ps) (filter test ps)) ≡ filter test (put_by_id p (by_rising_id ps))) [
+      | true ↦ λ e. ap (put_by_id p) later ∙ sym e
+      | false ↦ λ e. later ∙ sym e
+    ] put
 
 -- ---- the live peers
 

@@ -1,3 +1,4 @@
 pub mod Index
 pub mod Gone
 pub mod Names
+pub mod Ticks

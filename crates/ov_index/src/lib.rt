@@ -6,6 +6,7 @@ mod index;
 mod name;
 mod names;
 mod places;
+mod ticks;
 
 pub use gone::{Gone, Numbered};
 pub use index::Index;

@@ -1,6 +1,6 @@
 -- Passes are made and taken in again, and what they share at the end.
 use Rattle.std.proofs.Common.{ℕ, zero, suc, ◌≡◌, ◌≢◌, ◌+◌, ◌*◌, ◌<◌, ◌≤◌, List, [], ◌∷◌, ◌++◌, length, length-append, refl, sym, ap, ◌∙◌, subst, arith, inl, inr, true, false, if◌then◌else◌, ◌==◌, append-nil}
-use Rattle.std.specs.Prelude.{map}
+use Rattle.std.specs.Prelude.{map, max, take, slice_get, Some}
 use Rattle.std.specs.List.{AllByRecursion}
 use Rattle.std.proofs.lemmas.Bool.{cases_eq, eq-eqb, ne_eqb}
 use Rattle.std.proofs.lemmas.List.Elements.{filter-append}
@@ -18,14 +18,15 @@ use Rattle.ov_turn.proofs.Fronts.{prefix_self, prefix_more}
 use Rattle.ov_turn.proofs.Members.{has_le}
 use Rattle.ov_model.specs.declared.entry.Entry.{Entry}
 use Rattle.ov_model.specs.declared.note.Note.{Note}
-use Rattle.ov_model.specs.Tables.{Peer, Key, Table, serials_of, key_serials}
-use Rattle.ov_model.specs.Runs.{IsRun, last_table, notes_of}
+use Rattle.ov_model.specs.Tables.{Peer, Key, Table, empty_table, serials_of, key_serials}
+use Rattle.ov_model.specs.Step.{step, May}
+use Rattle.ov_model.specs.Runs.{IsRun, Follows, table_after, last_table, notes_of}
 use Rattle.ov_model.specs.Own.{RiseFrom, positions, picked, own_by, times_at, AreAll}
 use Rattle.ov_model.proofs.Picked.{picked_whole, elem_within}
-use Rattle.ov_model.proofs.Freed.{all_released}
+use Rattle.ov_model.proofs.Freed.{all_released, act_balance}
 use Rattle.ov_model.proofs.LifetimeLaw.{peers_stay_released, keys_stay_released}
 use Rattle.ov_table.specs.Cells.{cells, dying_cells}
-use Rattle.ov_lane.specs.Passes.{Passing, Shared, fresh, fresh_from, IsPassOf, IsFree, IsOrderly, AreFresh, AreAllPasses, IsPart, OneHistory, LastReleases}
+use Rattle.ov_lane.specs.Passes.{Passing, Shared, fresh, fresh_from, IsPassOf, IsFree, IsOrderly, AreFresh, AreAllPasses, IsPart, OneHistory, EachLeavesOnly, LastReleases}
 use Rattle.ov_lane.specs.Inner.{HasTaken}
 use Rattle.ov_lane.proofs.Stepping.{none_has}
 use Rattle.ov_lane.proofs.Ordering.{all_weaker, all_both}
@@ -217,6 +218,19 @@ one_history lock seat passes journal notes run told has front whole =
       within = all_named (λ e. 0 < count_of e.place.lane (map (λ p. p.number) passes)) journal (own_of seat) all has.within;
     }
 
+-- An entry of a run was allowed at the table that it found.
+allowed_at : (t : Table) (es : List Entry) (n : ℕ) (e : Entry) → Follows t es → slice_get es n ≡ Some e → May (table_after t (take n es)) e.call
+allowed_at t [] n e follows at = cc
+allowed_at t (x ∷ es) zero e follows at = let same : x ≡ e = cc in subst (λ (y : Entry). May t y.call) same follows.0
+allowed_at t (x ∷ es) (suc n) e follows at = allowed_at (step t x.call).after es n e follows.2 at
+
+leaves_only : (journal : List Entry) → IsRun journal → EachLeavesOnly journal
+leaves_only journal run n e at =
+    let t : Table = last_table (take n journal) in
+    let now : ℕ = max t.moment e.call.at in
+    let may : May t e.call = allowed_at empty_table journal n e run at in
+    record { peers = λ p. (act_balance p t now e.call.act may).peers; keys = λ k. (act_balance k t now e.call.act may).keys }
+
 no_cells : (ps : List Peer) (ks : List Key) → cells (serials_of ps) (key_serials ks) ≡ [] → (ps ≡ []) × (ks ≡ [])
 no_cells [] [] e = (refl, refl)
 no_cells [] (k ∷ ks) e = absurd (cc)
@@ -231,6 +245,7 @@ last_releases journal t holds owes run last none_held none_owed dying =
     let both = no_cells t.dying t.retired (none_has (dying_cells t) empty) in
     let all : ((last_table journal).dying ≡ []) × ((last_table journal).retired ≡ []) = subst (λ (q : Table). (q.dying ≡ []) × (q.retired ≡ [])) (sym last) both in
     record {
+      only = leaves_only journal run;
       all = record { peers = all.0; keys = all.1 };
       once = (all_released journal run).0 (record { peers = all.0; keys = all.1 });
       peers = peers_stay_released journal run;

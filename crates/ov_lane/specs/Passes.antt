@@ -1,5 +1,5 @@
 -- The passes of a shared table: what contracts see of one, and what a call makes of it.
-use Rattle.std.specs.Prelude.{◌≡◌, ℕ, zero, suc, ◌+◌, ◌*◌, ◌<◌, ◌≤◌, List, [], ◌∷◌, ◌++◌, Option, Some, length, map, filter, ◌==◌}
+use Rattle.std.specs.Prelude.{◌≡◌, ℕ, zero, suc, ◌+◌, ◌*◌, ◌<◌, ◌≤◌, List, [], ◌∷◌, ◌++◌, Option, Some, length, map, filter, ◌==◌, slice_get, take}
 use Rattle.std.specs.List.{AllByRecursion}
 use mathlib.Core.List.{IsPrefix}
 use mathlib.Core.Option.{some}
@@ -17,7 +17,8 @@ use Rattle.ov_model.specs.declared.reply.Reply.{Reply}
 use Rattle.ov_model.specs.Step.{step}
 use Rattle.ov_model.specs.Path.{SomeOwed, removed}
 use Rattle.ov_model.specs.Runs.{IsRun, last_table, notes_of}
-use Rattle.ov_model.specs.Removals.{AllReleased, EachReleasedOnce}
+use Rattle.ov_model.specs.Tables.{Table, serials_of, key_serials}
+use Rattle.ov_model.specs.Removals.{AllReleased, EachReleasedOnce, released_by, key_released_by, times}
 use Rattle.ov_model.specs.Lifetime.{PeersStayReleased, KeysStayReleased}
 use Rattle.ov_model.specs.Own.{RiseFrom, positions}
 use Rattle.ov_lane.specs.Within.{from_position, entries_of, made_by}
@@ -117,8 +118,18 @@ pub record OneHistory (journal : List Entry) (notes : List Note) (passes : List 
   pub each : AllByRecursion (IsPart journal) passes
   pub within : AllByRecursion (λ e. 0 < count_of e.place.lane (map (λ p. p.number) passes)) journal
 
--- Every peer that was removed and every key that left its slot is let go, exactly once, and named no more behind that.
+-- At an entry a peer joins the dying ones exactly where the entry removes it, and leaves them exactly where the entry lets it go; and so does a key the retired ones, where it leaves its slot and where it is let go.
+pub record LeavesOnly (before : Table) (call : Call) : Type 0 where
+  pub peers : (p : ℕ) → times p (serials_of (step before call).after.dying) + times p (released_by call.act) ≡ times p (serials_of before.dying) + times p (removed (step before call).reply)
+  pub keys : (k : ℕ) → times k (key_serials (step before call).after.retired) + times k (key_released_by call.act) ≡ times k (key_serials before.retired) + times k (step before call).taken
+
+-- At each entry of a journal.
+abbrev pub EachLeavesOnly : List Entry → Type 0
+EachLeavesOnly journal = (n : ℕ) (e : Entry) → slice_get journal n ≡ Some e → LeavesOnly (last_table (take n journal)) e.call
+
+-- A peer leaves the dying ones, and a key the retired ones, exactly by the entry that lets it go. Every peer that was removed and every key that left its slot is let go, exactly once, and named no more behind that.
 pub record LastReleases (journal : List Entry) : Type 0 where
+  pub only : EachLeavesOnly journal
   pub all : AllReleased journal
   pub once : EachReleasedOnce journal
   pub peers : PeersStayReleased journal

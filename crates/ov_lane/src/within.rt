@@ -157,6 +157,7 @@ fn removed_by(reply: &Reply) -> &[u32]
 {
     match reply {
         Reply::Removed(peers) => peers.as_slice(),
+        Reply::Ticked { expired, .. } => expired.as_slice(),
         _ => &[],
     }
 }

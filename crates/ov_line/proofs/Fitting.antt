@@ -20,6 +20,8 @@ deed_fits d (deed.Netlink m) has = tt
 deed_fits d (deed.Tx packet) has = hex_short longest_packet (get (codes "packet") d) packet has.packet_is
 deed_fits d (deed.Rx from bytes) has = hex_short longest_datagram (get (codes "datagram") d) bytes has.datagram_is
 deed_fits d (deed.Lost id why) has = tt
+deed_fits d deed.Tick has = tt
+deed_fits d deed.Down has = tt
 
 -- A line that bytes say fits.
 pub says_fits : (bytes : List ℕ) (lanes : ℕ) (line : Line) → Says bytes lanes line → Fits line.deed

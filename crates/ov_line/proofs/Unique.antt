@@ -220,24 +220,46 @@ op_of (form.Netlink o) = Some o
 op_of form.Tx = None
 op_of form.Rx = None
 op_of form.Lost = None
+op_of form.Tick = None
+op_of form.Down = None
 
 deed_one : (d : Data) (a b : Deed) → deed_form a ≡ deed_form b → IsDeed d a → IsDeed d b → a ≡ b
 deed_one d (deed.Netlink m) (deed.Netlink n) e h k = ap deed.Netlink (message_one d m n (some_same _ _ (ap op_of e)) h k)
 deed_one d (deed.Netlink m) (deed.Tx y) e h k = absurd (cc e)
 deed_one d (deed.Netlink m) (deed.Rx g y) e h k = absurd (cc e)
 deed_one d (deed.Netlink m) (deed.Lost i w) e h k = absurd (cc e)
+deed_one d (deed.Netlink m) deed.Tick e h k = absurd (cc e)
+deed_one d (deed.Netlink m) deed.Down e h k = absurd (cc e)
 deed_one d (deed.Tx x) (deed.Netlink n) e h k = absurd (cc e)
 deed_one d (deed.Tx x) (deed.Tx y) e h k = ap deed.Tx (needed_same (IsHex longest_packet) (hex_one longest_packet) (codes "packet") d x y h.packet_is k.packet_is)
 deed_one d (deed.Tx x) (deed.Rx g y) e h k = absurd (cc e)
 deed_one d (deed.Tx x) (deed.Lost i w) e h k = absurd (cc e)
+deed_one d (deed.Tx x) deed.Tick e h k = absurd (cc e)
+deed_one d (deed.Tx x) deed.Down e h k = absurd (cc e)
 deed_one d (deed.Rx f x) (deed.Netlink n) e h k = absurd (cc e)
 deed_one d (deed.Rx f x) (deed.Tx y) e h k = absurd (cc e)
 deed_one d (deed.Rx f x) (deed.Rx g y) e h k = ap₂ deed.Rx (needed_same IsTransport transport_one (codes "from") d f g h.sender k.sender) (needed_same (IsHex longest_datagram) (hex_one longest_datagram) (codes "datagram") d x y h.datagram_is k.datagram_is)
 deed_one d (deed.Rx f x) (deed.Lost i w) e h k = absurd (cc e)
+deed_one d (deed.Rx f x) deed.Tick e h k = absurd (cc e)
+deed_one d (deed.Rx f x) deed.Down e h k = absurd (cc e)
 deed_one d (deed.Lost j v) (deed.Netlink n) e h k = absurd (cc e)
 deed_one d (deed.Lost j v) (deed.Tx y) e h k = absurd (cc e)
 deed_one d (deed.Lost j v) (deed.Rx g y) e h k = absurd (cc e)
 deed_one d (deed.Lost j v) (deed.Lost i w) e h k = ap (λ (p : PeerId × Reason). deed.Lost p.0 p.1) (needed_same IsLost lost_one (codes "peer") d (j, v) (i, w) h.peer k.peer)
+deed_one d (deed.Lost j v) deed.Tick e h k = absurd (cc e)
+deed_one d (deed.Lost j v) deed.Down e h k = absurd (cc e)
+deed_one d deed.Tick (deed.Netlink n) e h k = absurd (cc e)
+deed_one d deed.Tick (deed.Tx y) e h k = absurd (cc e)
+deed_one d deed.Tick (deed.Rx g y) e h k = absurd (cc e)
+deed_one d deed.Tick (deed.Lost i w) e h k = absurd (cc e)
+deed_one d deed.Tick deed.Tick e h k = refl
+deed_one d deed.Tick deed.Down e h k = absurd (cc e)
+deed_one d deed.Down (deed.Netlink n) e h k = absurd (cc e)
+deed_one d deed.Down (deed.Tx y) e h k = absurd (cc e)
+deed_one d deed.Down (deed.Rx g y) e h k = absurd (cc e)
+deed_one d deed.Down (deed.Lost i w) e h k = absurd (cc e)
+deed_one d deed.Down deed.Tick e h k = absurd (cc e)
+deed_one d deed.Down deed.Down e h k = refl
 
 line_one : (lanes : ℕ) (d : Data) (a b : Line) → IsLine lanes d a → IsLine lanes d b → a ≡ b
 line_one lanes d a b h k =

@@ -27,6 +27,8 @@ form_back (form.Netlink op.KeyDel) = refl
 form_back form.Tx = refl
 form_back form.Rx = refl
 form_back form.Lost = refl
+form_back form.Tick = refl
+form_back form.Down = refl
 
 -- So two forms of one word are one.
 word_same : (f g : Form) → form_word f ≡ form_word g → f ≡ g
@@ -37,6 +39,8 @@ word_deed (deed.Netlink m) = refl
 word_deed (deed.Tx packet) = refl
 word_deed (deed.Rx from datagram) = refl
 word_deed (deed.Lost id why) = refl
+word_deed deed.Tick = refl
+word_deed deed.Down = refl
 
 -- Where the word of what a line asks for stands, that of its form does.
 given_form : (o : Option Data) (a : Deed) → Given (IsWord deed_word) o (Some a) → Given (IsWord form_word) o (Some (deed_form a))

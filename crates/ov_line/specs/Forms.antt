@@ -14,6 +14,8 @@ deed_form (deed.Netlink m) = form.Netlink m.op
 deed_form (deed.Tx packet) = form.Tx
 deed_form (deed.Rx from datagram) = form.Rx
 deed_form (deed.Lost id reason) = form.Lost
+deed_form deed.Tick = form.Tick
+deed_form deed.Down = form.Down
 
 -- The word of a form.
 abbrev pub form_word : Form → List ℕ
@@ -21,6 +23,8 @@ form_word (form.Netlink o) = op_word o
 form_word form.Tx = codes "tx"
 form_word form.Rx = codes "rx"
 form_word form.Lost = codes "lost"
+form_word form.Tick = codes "tick"
+form_word form.Down = codes "down"
 
 -- The form that a word names.
 abbrev pub form_of : List ℕ → Option Form
@@ -36,4 +40,6 @@ form_of word =
     (if bytes_eq word (codes "key-del") then Some (form.Netlink op.KeyDel) else
     (if bytes_eq word (codes "tx") then Some form.Tx else
     (if bytes_eq word (codes "rx") then Some form.Rx else
-    (if bytes_eq word (codes "lost") then Some form.Lost else None)))))))))))
+    (if bytes_eq word (codes "lost") then Some form.Lost else
+    (if bytes_eq word (codes "tick") then Some form.Tick else
+    (if bytes_eq word (codes "down") then Some form.Down else None)))))))))))))

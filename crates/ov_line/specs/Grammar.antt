@@ -43,6 +43,8 @@ deed_word (deed.Netlink m) = op_word m.op
 deed_word (deed.Tx packet) = codes "tx"
 deed_word (deed.Rx from datagram) = codes "rx"
 deed_word (deed.Lost id reason) = codes "lost"
+deed_word deed.Tick = codes "tick"
+deed_word deed.Down = codes "down"
 
 -- The slots of a peer.
 abbrev pub slot_word : Slot → List ℕ
@@ -77,14 +79,16 @@ message_names op.KeyGet = key_line
 message_names op.KeySwap = key_line
 message_names op.KeyDel = key_line
 
--- The names inside `peer`, by the operation. Those of peer-set are those of peer-new without the socket's.
-abbrev pub peer_names : NlOp → List (List ℕ)
-peer_names op.PeerNew =
-    codes "id" ∷ codes "keepalive-interval" ∷ codes "keepalive-timeout" ∷ codes "local-ipv4" ∷ codes "local-ipv6" ∷ codes "local-port" ∷ codes "remote-ipv4"
-    ∷ codes "remote-ipv6" ∷ codes "remote-ipv6-scope-id" ∷ codes "remote-port" ∷ codes "socket" ∷ codes "socket-netnsid" ∷ codes "vpn-ipv4" ∷ codes "vpn-ipv6" ∷ []
-peer_names op.PeerSet =
+-- The names inside `peer` of peer-set.
+abbrev pub peer_settings : List (List ℕ)
+peer_settings =
     codes "id" ∷ codes "keepalive-interval" ∷ codes "keepalive-timeout" ∷ codes "local-ipv4" ∷ codes "local-ipv6" ∷ codes "local-port" ∷ codes "remote-ipv4"
     ∷ codes "remote-ipv6" ∷ codes "remote-ipv6-scope-id" ∷ codes "remote-port" ∷ codes "vpn-ipv4" ∷ codes "vpn-ipv6" ∷ []
+
+-- The names inside `peer`, by the operation. Those of peer-set are those of peer-new without the socket's.
+abbrev pub peer_names : NlOp → List (List ℕ)
+peer_names op.PeerNew = codes "socket" ∷ codes "socket-netnsid" ∷ peer_settings
+peer_names op.PeerSet = peer_settings
 peer_names op.PeerGet = codes "id" ∷ []
 peer_names op.PeerDel = codes "id" ∷ []
 peer_names _ = []
@@ -184,12 +188,18 @@ pub record IsLoser (d : Data) (id : PeerId) (why : Reason) : Type 0 where
   pub only : IsTrue (has_only (codes "at" ∷ codes "do" ∷ codes "lane" ∷ codes "peer" ∷ []) d)
   pub peer : Has IsLost (codes "peer") d (Some (id, why))
 
+-- A line with no names but the three that every line has.
+abbrev pub IsBare : Data → Type 0
+IsBare d = IsTrue (has_only (codes "at" ∷ codes "do" ∷ codes "lane" ∷ []) d)
+
 -- What a line asks for, with the names that belong to it.
 abbrev pub IsDeed : Data → Deed → Type 0
 IsDeed d (deed.Netlink m) = IsMessage d m
 IsDeed d (deed.Tx packet) = IsTx d packet
 IsDeed d (deed.Rx from datagram) = IsRx d from datagram
 IsDeed d (deed.Lost id why) = IsLoser d id why
+IsDeed d deed.Tick = IsBare d
+IsDeed d deed.Down = IsBare d
 
 -- A value as a line: the moment, the lane, and what the line asks for, by its word and its other names.
 pub record IsLine (lanes : ℕ) (d : Data) (line : Line) : Type 0 where

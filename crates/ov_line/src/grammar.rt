@@ -31,6 +31,10 @@ pub enum Form {
     Rx,
     /// A peer's transport is lost.
     Lost,
+    /// The clock is looked at.
+    Tick,
+    /// The device goes down.
+    Down,
 }
 
 /// Nothing, where the line has no names but those of its operation.
@@ -81,8 +85,17 @@ fn form_of(word: &str) -> Option<Form>
         "tx" => Some(Form::Tx),
         "rx" => Some(Form::Rx),
         "lost" => Some(Form::Lost),
+        "tick" => Some(Form::Tick),
+        "down" => Some(Form::Down),
         _ => None,
     }
+}
+
+/// Nothing, where the line has no names but the three that every line has.
+fn bare(value: &Value) -> Result<(), Why>
+    ensures { Passes (spec.IsBare (view value.now)) result }
+{
+    only(value, "line", &["at", "do", "lane"])
 }
 
 /// The form of a line.
@@ -116,6 +129,14 @@ fn deed_with(alloc: Global, form: Form, value: &Value) -> Result<Deed, LineStop>
         Form::Lost => {
             let (id, reason) = loss_of(value)?;
             Ok(Deed::Lost { id, reason })
+        }
+        Form::Tick => {
+            bare(value)?;
+            Ok(Deed::Tick)
+        }
+        Form::Down => {
+            bare(value)?;
+            Ok(Deed::Down)
         }
     }
 }

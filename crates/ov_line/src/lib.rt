@@ -23,12 +23,8 @@ mod packet_tests;
 pub mod packets;
 pub mod parts;
 pub mod peer;
-pub mod text;
 pub mod why;
-pub mod write;
-pub mod write_message;
 
 pub use line::{LineStop, read_line};
 pub use packets::{MOST_DATAGRAM, MOST_PACKET};
-pub use text::line_bytes;
 pub use why::{Name, Why};

@@ -3,7 +3,6 @@ use Rattle.std.proofs.Common.{ℕ, ◌≡◌, ◌≢◌, List, [], ◌∷◌, �
 use Rattle.std.specs.Prelude.{max, Option, Some, None, IsSome, unwrap_or, slice_get, if◌then◌else◌}
 use Rattle.std.specs.List.{AllByRecursion}
 use Rattle.std.proofs.lemmas.Bool.{cases_eq, eq-eqb, ne_eqb}
-use Rattle.std.proofs.lemmas.Option.{slice_get_within}
 use Rattle.ov_base.specs.declared.address.Addr.{Addr}
 use Rattle.ov_base.specs.declared.address.Transport.{Transport}
 use Rattle.ov_model.specs.declared.ident.PeerId.{PeerId}
@@ -41,15 +40,14 @@ use Rattle.ov_model.specs.Step.{is_serial, settled_as, settle, act_step}
 use Rattle.ov_model.specs.Runs.{IsRun}
 use Rattle.ov_model.specs.Packets.{HeadKind, short, data_v1, control, data_v2, head_of, Kind, from_source, ping, no_source, kind_of, opened, packet_id_of}
 use Rattle.ov_model.specs.Events.{Step, Judgement, of, shown_in, steps_of, step_of, release_of, releases}
-use Rattle.ov_model.specs.Path.{first, begins_rx, rx_look_by, packet_in, kind_via, settle_act, replay_of, UseFits, refused_as, hold_owed, Columns, rx_row, use_row, IsMiss, Path, by_at_once, by_command, by_miss, by_round}
+use Rattle.ov_model.specs.Path.{first, begins_rx, rx_look_by, packet_in, kind_via, settle_act, replay_of, UseFits, refused_as, hold_owed, Columns, rx_row, use_row, IsMiss, Path, by_at_once, by_command, by_miss, by_round, by_tick}
 use Rattle.ov_model.specs.Keys.{key_of}
 use Rattle.ov_model.specs.Via.{via_of}
-use Rattle.ov_model.specs.Legal.{Meets, Legal}
+use Rattle.ov_model.specs.Legal.{Legal}
 use Rattle.ov_model.specs.Laws.{HasDeed, Receives, LooksUp, judged_at, answer_at, AcceptsOnce}
 use Rattle.ov_model.specs.Delivery.{IsReceived, IsSettleOf, table_before, Delivers, DeliveredUnder, DeliversOnce}
 use Rattle.ov_model.proofs.Lanes.{all_append, here}
-use Rattle.ov_model.proofs.NonceLaw.{InLane, in_lane}
-use Rattle.ov_model.proofs.SealedLaw.{at_once_not_made}
+use Rattle.ov_model.proofs.SealedLaw.{at_once_has, LinePath, line_path}
 use Rattle.ov_model.proofs.Places.{entry_has, step_entry, judged_has, judged_found, reply_at}
 
 -- ---- what settling replies
@@ -59,14 +57,14 @@ unfolding settle
 settle_reply t now peer from k inner outer = refl
 
 -- What an entry that settles a packet replies, by the table before it.
-settled_so : (via : Addr → Addr) (journal : List Entry) → IsRun journal → (n : ℕ) (e : Entry) (h : HoldView) (inner bytes : List ℕ) (s : Settled) → slice_get journal n ≡ Some e → e.call.act ≡ settle_act via h inner bytes → e.reply ≡ reply.Settled s
+settled_so : (via : Addr → Addr) (journal : List Entry) → IsRun journal → (n : ℕ) (e : Entry) (h : HoldView) (from : Transport) (inner bytes : List ℕ) (s : Settled) → slice_get journal n ≡ Some e → e.call.act ≡ settle_act via h from inner bytes → e.reply ≡ reply.Settled s
     → settled_as h.peer (kind_via via (kind_of inner)) (table_before journal n).live ≡ s
-settled_so via journal run n e h inner bytes s at act_is reply_is =
+settled_so via journal run n e h from inner bytes s at act_is reply_is =
     let before : Table = table_before journal n in
     let now : ℕ = max before.moment e.call.at in
     let ran : (act_step before now e.call.act).reply ≡ reply.Settled s = reply_at empty_table journal n e run at ∙ reply_is in
-    let by_act : (act_step before now (settle_act via h inner bytes)).reply ≡ reply.Settled s = ap (λ (w : Act). (act_step before now w).reply) (sym act_is) ∙ ran in
-    let replied : reply.Settled (settled_as h.peer (kind_via via (kind_of inner)) before.live) ≡ reply.Settled s = sym (settle_reply before now h.peer None (kind_via via (kind_of inner)) (length inner) (length bytes)) ∙ by_act in
+    let by_act : (act_step before now (settle_act via h from inner bytes)).reply ≡ reply.Settled s = ap (λ (w : Act). (act_step before now w).reply) (sym act_is) ∙ ran in
+    let replied : reply.Settled (settled_as h.peer (kind_via via (kind_of inner)) before.live) ≡ reply.Settled s = sym (settle_reply before now h.peer (Some from) (kind_via via (kind_of inner)) (length inner) (length bytes)) ∙ by_act in
     cc
 
 -- Whose a packet is, where it is delivered, and the other way round.
@@ -132,17 +130,19 @@ record DeliversUse (via : Addr → Addr) (place : Place) (at : ℕ) (d : Deed) (
   deed_is : d ≡ deed.Rx from bytes
   id_is : h.id ≡ id
   opens : opened m.decrypt bytes ≡ Some packet
-  row_is : use_row via place at d h m u ≡ rx_row via place at h packet bytes (used.Settled settled.Deliver)
+  row_is : use_row via place at d h m u ≡ rx_row via place at h from packet bytes (used.Settled settled.Deliver)
 
 delivers_use : (via : Addr → Addr) (place : Place) (at : ℕ) (d : Deed) (h : HoldView) (m : Material) (u : Use) (id : PeerId) (packet : List ℕ) → UseFits d m u → answer.Delivered id packet ≡ (use_row via place at d h m u).answer → DeliversUse via place at d h m u id packet
 delivers_use via place at (deed.Tx p) h m (used.Sealed n) id packet fits is = cc
 delivers_use via place at (deed.Tx p) h m (used.Spent killed) id packet fits is = cc
+delivers_use via place at deed.Tick h m (used.Sealed n) id packet fits is = cc
+delivers_use via place at deed.Tick h m (used.Spent killed) id packet fits is = cc
 delivers_use via place at (deed.Rx from bytes) h m used.BadTag id packet fits is = cc
 delivers_use via place at (deed.Rx from bytes) h m (used.Refused x) id packet fits is = cc
 delivers_use via place at (deed.Rx from bytes) h m (used.Settled settled.Deliver) id packet fits is =
     let id_is : h.id ≡ id = cc in
     let packet_is : unwrap_or (opened m.decrypt bytes) [] ≡ packet = cc in
-    record { from = from; bytes = bytes; deed_is = refl; id_is = id_is; opens = opens_to (opened m.decrypt bytes) packet fits packet_is; row_is = ap (λ p. rx_row via place at h p bytes (used.Settled settled.Deliver)) packet_is }
+    record { from = from; bytes = bytes; deed_is = refl; id_is = id_is; opens = opens_to (opened m.decrypt bytes) packet fits packet_is; row_is = ap (λ p. rx_row via place at h from p bytes (used.Settled settled.Deliver)) packet_is }
 delivers_use via place at (deed.Rx from bytes) h m (used.Settled settled.Ping) id packet fits is = cc
 delivers_use via place at (deed.Rx from bytes) h m (used.Settled settled.NotIp) id packet fits is = cc
 delivers_use via place at (deed.Rx from bytes) h m (used.Settled settled.NotOwner) id packet fits is = cc
@@ -159,13 +159,14 @@ record DeliveredRow (material : ℕ → Option Material) (via : Addr → Addr) (
   id_is : h.id ≡ id
   material_is : material h.key ≡ Some m
   opens : opened m.decrypt bytes ≡ Some packet
-  steps : ss ≡ step_of place line.at x (reply.Hold h) [] ∷ step_of place line.at (settle_act via h packet bytes) (reply.Settled settled.Deliver) [] ∷ releases place line.at os
+  steps : ss ≡ step_of place line.at x (reply.Hold h) [] ∷ step_of place line.at (settle_act via h from packet bytes) (reply.Settled settled.Deliver) [] ∷ releases place line.at os
   judgements : js ≡ replay_of place line.at h bytes Accept ∷ []
 
 delivered_row : (material : ℕ → Option Material) (via : Addr → Addr) (place : Place) (line : Line) (ss : List Step) (js : List Judgement) (id : PeerId) (packet : List ℕ) → Path material via place line ss js (answer.Delivered id packet) → DeliveredRow material via place line ss js id packet
-delivered_row material via place line ss js id packet (by_at_once r) = absurd (at_once_not_made via line.deed (answer.Delivered id packet) r.begins_so tt)
+delivered_row material via place line ss js id packet (by_at_once r) = absurd (at_once_has (λ a. a ≡ answer.Delivered id packet → ⊥) (λ e is. cc) (λ c is. cc) (λ is. cc) via line.deed (answer.Delivered id packet) r.begins_so refl)
 delivered_row material via place line ss js id packet (by_command r) = let is = r.answer_is in cc
 delivered_row material via place line ss js id packet (by_miss r) = let is = r.answer_is in cc
+delivered_row material via place line ss js id packet (by_tick r) = let is = r.answer_is in cc
 delivered_row material via place line ss js id packet (by_round r) =
     let u = delivers_use via place line.at line.deed r.round.hold r.round.material r.round.made id packet r.fits.1 r.answer_is in
     let look : Step = step_of place line.at r.round.look (reply.Hold r.round.hold) [] in
@@ -187,24 +188,7 @@ delivered_row material via place line ss js id packet (by_round r) =
 
 -- ---- the path of a line that is answered
 
--- A line of the report with its path.
-record LinePath (via : Addr → Addr) (report : Report) (lane line : ℕ) (a : Answer) : Type 0 where
-  log : LaneLog
-  log_is : slice_get report.lanes lane ≡ Some log
-  its : Line
-  its_is : slice_get log.lines line ≡ Some its
-  path : Path (key_of report.journal) via (record { lane = lane; line = line }) its (of (steps_of report.journal) lane line) (shown_in report.shards lane line) a
-
-line_path : (script : Script) (start : ℕ) (report : Report) → Legal script start report → (lane line : ℕ) (a : Answer) → answer_at report.lanes lane line ≡ Some a → LinePath (via_of script.routes) report lane line a
-line_path script start report legal lane line a at =
-    let via : Addr → Addr = via_of script.routes in
-    let x : InLane report.lanes lane line a = in_lane report.lanes lane line a at in
-    let meets : Meets (key_of report.journal) via (steps_of report.journal) report.shards lane x.log.lines x.log.answers line = (legal.lines.each lane x.log x.log_is).each line (slice_get_within x.log.answers line a x.at) in
-    let answers : Some meets.answer ≡ Some a = sym meets.answer_is ∙ x.at in
-    let same : meets.answer ≡ a = cc in
-    record { log = x.log; log_is = x.log_is; its = meets.line; its_is = meets.line_is; path = subst (Path (key_of report.journal) via (record { lane = lane; line = line }) meets.line (of (steps_of report.journal) lane line) (shown_in report.shards lane line)) same meets.path }
-
--- Its deed is the line's.
+-- The deed of a line's path is the line's.
 path_deed : (via : Addr → Addr) (report : Report) (lane line : ℕ) (a : Answer) (path : LinePath via report lane line a) (d : Deed) → HasDeed report lane line d → path.its.deed ≡ d
 path_deed via report lane line a path d has =
     let logs : Some has.log ≡ Some path.log = sym has.log_is ∙ path.log_is in
@@ -239,12 +223,12 @@ delivered_shows script start report legal lane line from bytes receives id packe
     let l : DeliveredLine via report lane line id packet = delivered_line script start report legal lane line id packet answered in
     let row = l.row in
     let at : ℕ = l.path.its.at in
-    let settle : Entry = (step_of place at (settle_act via row.h packet row.bytes) (reply.Settled settled.Deliver) []).entry in
+    let settle : Entry = (step_of place at (settle_act via row.h row.from packet row.bytes) (reply.Settled settled.Deliver) []).entry in
     let look_at = step_entry empty_table report.journal lane line 0 (step_of place at row.x (reply.Hold row.h) []) (ap (λ (ss : List Step). slice_get ss 0) row.steps) in
-    let settle_at = step_entry empty_table report.journal lane line 1 (step_of place at (settle_act via row.h packet row.bytes) (reply.Settled settled.Deliver) []) (ap (λ (ss : List Step). slice_get ss 1) row.steps) in
+    let settle_at = step_entry empty_table report.journal lane line 1 (step_of place at (settle_act via row.h row.from packet row.bytes) (reply.Settled settled.Deliver) []) (ap (λ (ss : List Step). slice_get ss 1) row.steps) in
     let judged = judged_found report.shards lane line 0 (replay_of place at row.h row.bytes Accept) (ap (λ (js : List Judgement). slice_get js 0) row.judgements) in
     let before : Table = table_before report.journal settle_at.n in
-    let deliver : settled_as row.h.peer (kind_via via (kind_of packet)) before.live ≡ settled.Deliver = settled_so via report.journal legal.journal.runs settle_at.n settle row.h packet row.bytes settled.Deliver settle_at.at refl refl in
+    let deliver : settled_as row.h.peer (kind_via via (kind_of packet)) before.live ≡ settled.Deliver = settled_so via report.journal legal.journal.runs settle_at.n settle row.h row.from packet row.bytes settled.Deliver settle_at.at refl refl in
     let own : Owned via row.h.peer (kind_of packet) before.live = owned via row.h.peer (kind_of packet) before.live deliver in
     subst (λ b. Delivers via report lane line b id packet) (its_bytes via report lane line id packet l from bytes receives) (record {
       hold = row.h;
@@ -348,16 +332,16 @@ showing_round via report lane line from bytes id packet d run at x h m (used.Ref
 showing_round via report lane line from bytes id packet d run at x h m (used.Settled s) os begins has fits steps judgements =
     let place : Place = record { lane = lane; line = line } in
     let inner : List ℕ = packet_in (deed.Rx from bytes) m in
-    let settles : Step = step_of place at (settle_act via h inner bytes) (reply.Settled s) [] in
+    let settles : Step = step_of place at (settle_act via h from inner bytes) (reply.Settled s) [] in
     let no_hold : Holds h settles.entry = λ k is. cc in
     let both = same_hold via report lane line bytes id packet d at x h m (settles ∷ []) os has (no_hold, tt) steps in
     let inner_is : inner ≡ packet = ap (λ o. unwrap_or o []) both.1 in
-    let P : Entry → Type 0 = Settles d.hold.peer (settle_act via h inner bytes) s in
+    let P : Entry → Type 0 = Settles d.hold.peer (settle_act via h from inner bytes) s in
     let look : P (step_of place at x (reply.Hold h) []).entry = λ i. absurd (rx_begins d.hold.peer from (head_of bytes) x begins i) in
-    let its = settle_has via report lane line bytes id packet d P _ steps (look, ((λ _. (refl, refl)), all_released P place at (release_settles d.hold.peer (settle_act via h inner bytes) s place at) os)) d.settles in
+    let its = settle_has via report lane line bytes id packet d P _ steps (look, ((λ _. (refl, refl)), all_released P place at (release_settles d.hold.peer (settle_act via h from inner bytes) s place at) os)) d.settles in
     let before : Table = table_before report.journal d.settle in
     let deliver : settled_as h.peer (kind_via via (kind_of inner)) before.live ≡ settled.Deliver = owner_delivers via h.peer (kind_of inner) before.live d.source d.owner (ap kind_of inner_is ∙ d.source_is) d.owner_is (d.owns ∙ ap (λ (w : HoldView). w.peer) both.0) in
-    let same : settled_as h.peer (kind_via via (kind_of inner)) before.live ≡ s = settled_so via report.journal run d.settle d.settle_entry h inner bytes s d.settled.at its.0 its.1 in
+    let same : settled_as h.peer (kind_via via (kind_of inner)) before.live ≡ s = settled_so via report.journal run d.settle d.settle_entry h from inner bytes s d.settled.at its.0 its.1 in
     let settled_is : s ≡ settled.Deliver = sym same ∙ deliver in
     let id_is : h.id ≡ id = ap (λ (w : HoldView). w.id) (sym both.0) ∙ d.id_is in
     rw (settled_is, inner_is, id_is) refl
@@ -371,6 +355,7 @@ showing via report lane line from bytes id packet d run own at a (by_miss r) =
     absurd (subst (λ (w : Reply). IsMiss w r.cause) (sym its ∙ d.held.held) r.misses)
 showing via report lane line from bytes id packet d run own at a (by_round r) =
     r.answer_is ∙ showing_round via report lane line from bytes id packet d run at r.round.look r.round.hold r.round.material r.round.made (hold_owed r.round.hold r.round.key r.round.peer) r.begins_so r.fits.0 r.fits.1 r.steps_are r.judgements_are
+showing via report lane line from bytes id packet d run own at a (by_tick r) = let is = r.is_tick in cc
 
 pub showing_delivers : (script : Script) (start : ℕ) (report : Report) → Legal script start report → (lane line : ℕ) (from : Transport) (bytes : List ℕ) (a : Answer) → Receives report lane line from bytes → answer_at report.lanes lane line ≡ Some a → (id : PeerId) (packet : List ℕ) → Delivers (via_of script.routes) report lane line bytes id packet → a ≡ answer.Delivered id packet
 showing_delivers script start report legal lane line from bytes a receives at id packet d =
@@ -389,7 +374,7 @@ delivered_holds via report lane line id packet l k looks =
     let at : ℕ = l.path.its.at in
     let P : Entry → Type 0 = Holds row.h in
     let look : P (step_of place at row.x (reply.Hold row.h) []).entry = λ k is. cc in
-    let settles : P (step_of place at (settle_act via row.h packet row.bytes) (reply.Settled settled.Deliver) []).entry = λ k is. cc in
+    let settles : P (step_of place at (settle_act via row.h row.from packet row.bytes) (reply.Settled settled.Deliver) []).entry = λ k is. cc in
     let gives : AllByRecursion (λ s. P s.entry) (releases place at row.os) = all_released P place at (release_holds row.h place at) row.os in
     entry_has P empty_table report.journal lane line looks.n looks.entry (subst (λ (ss : List Step). AllByRecursion (λ s. P s.entry) ss) (sym row.steps) (look, (settles, gives))) looks.made.at (here lane line looks.entry.place looks.made.place) k looks.held
 

@@ -17,10 +17,10 @@ use Rattle.ov_model.specs.Checked.{checked}
 use Rattle.ov_model.specs.Ident.{peer_id, key_id}
 use Rattle.ov_model.specs.Packets.{datagram, opened, keepalive}
 use Rattle.ov_model.specs.Replay.{before_gap, floor_of, verdict_of}
-use Rattle.ov_model.specs.Step.{peer_new, peer_set, peer_get, peer_dump, key_get, key_swap, key_del, tx_look, rx_look}
+use Rattle.ov_model.specs.Step.{peer_new, peer_set, peer_get, peer_dump, key_get, key_swap, key_del, tick, down, tx_look, rx_look, keep_look, settle}
 use Rattle.ov_model.specs.Tables.{Key}
 use Rattle.ov_model.proofs.PeerIds.{peer_id_of}
-use Rattle.ov_model.specs.Examples.{WindowExamples, DatagramExamples, InnerExamples, MessageExamples, NewExamples, SetExamples, SlotExamples, DumpExamples, LookExamples, IdExamples, ViaExamples, RouteExample}
+use Rattle.ov_model.specs.Examples.{WindowExamples, DatagramExamples, InnerExamples, MessageExamples, NewExamples, SetExamples, SlotExamples, DumpExamples, LookExamples, TickExamples, DownExamples, KeepExamples, FloatExamples, IdExamples, ViaExamples, RouteExample}
 
 pub window_examples : WindowExamples
 unfolding before_gap floor_of verdict_of
@@ -159,6 +159,51 @@ look_examples id k l defined differ = record {
   earlier = refl;
   later = refl;
 }
+
+pub tick_examples : (id other : PeerId) (k : Key) → id.number ≡ 5 → other.number ≡ 6 → TickExamples id other k
+unfolding tick
+tick_examples id other k five six =
+    let above : nat_lt other.number id.number ≡ false = rw (five, six) refl in
+    record {
+      due = refl;
+      not_due = refl;
+      expired = refl;
+      not_expired = refl;
+      last_ping = refl;
+      no_ping = refl;
+      no_timeout = refl;
+      no_interval = refl;
+      no_primary = refl;
+      reply_is = rw above refl;
+      left = refl;
+      dying = rw above refl;
+      noted = rw above refl;
+      both_due = rw above refl;
+    }
+
+pub down_examples : (id other : PeerId) (k : Key) → id.number ≡ 5 → other.number ≡ 6 → DownExamples id other k
+unfolding down keep_look
+down_examples id other k five six =
+    let below : nat_lt id.number other.number ≡ true = rw (five, six) refl in
+    let above : nat_lt other.number id.number ≡ false = rw (five, six) refl in
+    record {
+      none = refl;
+      as_made = rw below refl;
+      other_way = rw above refl;
+      left = refl;
+      dying = rw below refl;
+      taken = rw below refl;
+      noted = rw below refl;
+      skipped = refl;
+    }
+
+pub keep_examples : (id : PeerId) (k : Key) → KeepExamples id k
+unfolding keep_look
+keep_examples id k = record { held = refl; no_primary = refl; nobody = refl }
+
+pub float_examples : (id other : PeerId) → FloatExamples id other
+unfolding settle
+float_examples id other = record { moves = refl; taken = refl; own = refl; other_port = refl; not_owner = refl; removed = refl }
 
 past_greatest : peer_id 16777216 ≡ None
 past_greatest = elim (dec_le 16777216 16777215) as (λ d. ◌≡◌ {A = Option PeerId} (dite d (λ k. Some (record { number = 16777216; in_range = k })) (λ _. None)) None) [ yes k ↦ absurd (omega (arith, k)) | no k ↦ refl ]

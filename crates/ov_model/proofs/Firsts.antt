@@ -3,6 +3,7 @@ use Rattle.std.proofs.Common.{ℕ, ◌≡◌, ◌+◌, List, [], ◌∷◌, refl
 use Rattle.std.specs.Prelude.{map, find, Some}
 use Rattle.std.specs.List.{AllByRecursion, list_any}
 use Rattle.std.proofs.lemmas.Bool.{cases_eq, eq-eqb, ne_eqb}
+use Rattle.std.proofs.lemmas.Bool.Decides.{nat_tests}
 use Rattle.ov_base.specs.Sums.{total}
 use Rattle.ov_model.specs.Tables.{change_first, without_first}
 use Rattle.ov_model.specs.Removals.{times}
@@ -15,6 +16,16 @@ first_cases {X} fits y ys x found =
       | true ↦ λ yes is. inl (yes, (let e : Some y ≡ Some x = is in cc))
       | false ↦ λ no is. inr (no, is)
     ] refl found
+
+-- What is found fits.
+pub found_fits : {X : Type 0} (fits : X → Bool) (xs : List X) (x : X) → find fits xs ≡ Some x → fits x ≡ true
+found_fits fits [] x found = cc
+found_fits fits (y ∷ ys) x found =
+    elim (first_cases fits y ys x found) [ inl here ↦ subst (λ z. fits z ≡ true) here.1 here.0 | inr later ↦ found_fits fits ys x later.1 ]
+
+-- What is found by a number has it.
+pub found_of : {X : Type 0} (f : X → ℕ) (n : ℕ) (xs : List X) (x : X) → find (λ y. f y == n) xs ≡ Some x → f x ≡ n
+found_of f n xs x found = let fits : (f x == n) ≡ true = found_fits (λ y. f y == n) xs x found in grind (arith, nat_tests)
 
 -- ---- what holds of all members
 

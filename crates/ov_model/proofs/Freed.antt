@@ -6,12 +6,12 @@ use Rattle.ov_model.specs.declared.act.Act.{Act}
 use Rattle.ov_model.specs.declared.act.Act.TheVariants as act
 use Rattle.ov_model.specs.declared.entry.Entry.{Entry}
 use Rattle.ov_model.specs.Tables.{Peer, Key, Table, empty_table, key_serials}
-use Rattle.ov_model.specs.Step.{Outcome, tx_look, rx_look, sent, settle, spend, released, key_released, command_step, act_step, step, is_there, is_retired, may_act}
+use Rattle.ov_model.specs.Step.{Outcome, tx_look, rx_look, keep_look, sent, settle, spend, released, key_released, command_step, act_step, step, is_there, is_retired, may_act}
 use Rattle.ov_model.specs.Runs.{Follows, IsRun, table_after, last_table}
 use Rattle.ov_model.specs.Events.{steps_after, steps_of}
 use Rattle.ov_model.specs.Path.{removed, spent_reply}
 use Rattle.ov_model.specs.Removals.{removed_in, AllReleased, released_by, released_in, key_released_by, keys_released_in, keys_taken_in, times, EachReleasedOnce}
-use Rattle.ov_model.proofs.Removing.{serials, Joins, command_joins, Keeps, tx_look_keeps, rx_look_keeps, sent_keeps, settle_keeps, Spends, spend_spends}
+use Rattle.ov_model.proofs.Removing.{serials, Joins, command_joins, Keeps, tx_look_keeps, rx_look_keeps, keep_look_keeps, sent_keeps, settle_keeps, Spends, spend_spends}
 use Rattle.ov_model.proofs.Firsts.{counts_without}
 use Rattle.ov_model.proofs.Times.{times-append}
 use Rattle.ov_model.proofs.KeysTaken.{removed_times, taken_once}
@@ -54,6 +54,7 @@ act_balance x t now (act.Do c) may =
     record { peers = omega arith; keys = omega arith }
 act_balance x t now (act.TxLook a) may = keeps_balance x t (act.TxLook a) (tx_look t now a) refl refl (tx_look_keeps t now a)
 act_balance x t now (act.RxLook id key_id from) may = keeps_balance x t (act.RxLook id key_id from) (rx_look t now id key_id from) refl refl (rx_look_keeps t now id key_id from)
+act_balance x t now (act.KeepLook peer) may = keeps_balance x t (act.KeepLook peer) (keep_look t now peer) refl refl (keep_look_keeps t now peer)
 act_balance x t now (act.Sent peer inner outer ping) may = keeps_balance x t (act.Sent peer inner outer ping) (sent t now peer inner outer ping) refl refl (sent_keeps t now peer inner outer ping)
 act_balance x t now (act.Settle peer from k inner outer) may = keeps_balance x t (act.Settle peer from k inner outer) (settle t now peer from k inner outer) refl refl (settle_keeps t now peer from k inner outer)
 act_balance x t now (act.Spend peer key) may =

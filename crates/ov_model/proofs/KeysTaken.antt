@@ -1,7 +1,7 @@
 -- Of each serial of a peer or of a key: what a step makes, what it takes out and what is left. None is made
 -- twice in a run, and none leaves twice.
 use Rattle.std.proofs.Common.{ℕ, ◌≡◌, ◌+◌, ◌<◌, ◌≤◌, List, [], ◌∷◌, ◌++◌, refl, ap, ◌∙◌, append_assoc, Bool, arith, append-nil, inl, inr, ◌⊎◌}
-use Rattle.std.specs.Prelude.{find, Option, Some, None}
+use Rattle.std.specs.Prelude.{filter, find, not, Option, Some, None}
 use Rattle.std.proofs.lemmas.Bool.{cases_eq, eq-eqb, ne_eqb}
 use Rattle.std.proofs.lemmas.List.{map-append}
 use Rattle.ov_base.specs.declared.address.Transport.{Transport}
@@ -10,6 +10,7 @@ use Rattle.ov_model.specs.declared.ident.PeerId.{PeerId}
 use Rattle.ov_model.specs.declared.command.Attrs.{Attrs}
 use Rattle.ov_model.specs.declared.command.KeyConf.{KeyConf}
 use Rattle.ov_model.specs.declared.command.Reason.{Reason}
+use Rattle.ov_model.specs.declared.command.Reason.TheVariants.{Expired, Teardown}
 use Rattle.ov_model.specs.declared.command.Slot.{Slot}
 use Rattle.ov_model.specs.declared.command.Slot.TheVariants.{Primary, Secondary}
 use Rattle.ov_model.specs.declared.command.Command.TheVariants as command
@@ -21,14 +22,15 @@ use Rattle.ov_model.specs.declared.reply.Reply.{Reply}
 use Rattle.ov_model.specs.declared.reply.Reply.TheVariants as reply
 use Rattle.ov_model.specs.declared.reply.Errno.TheVariants.{NoEntry, Invalid}
 use Rattle.ov_model.specs.declared.reply.Settled.{Settled}
-use Rattle.ov_model.specs.Tables.{Peer, Key, Slots, Table, empty_table, change_first, without_first, has_id, has_serial, serials_of, in_slot, with_slot, swapped, key_if_any, keys_in, keys_of, key_serials, by_id, by_serial, by_vpn, by_key_id, by_key, without_key}
-use Rattle.ov_model.specs.Step.{Outcome, replied, refused, where_found, change_peer, peer_of, peer_new_checks, peer_made, peer_new, peer_new_at, set_peer, peer_set_checks, peer_changed, peer_set, peer_get, peer_dump, removals, remove_peer, key_of_conf, with_key, key_new_checks, key_made, key_new, key_get, with_slots, slots_changed, key_swap, key_del, hold_of, key_found, tx_look, rx_peer, rx_look, sent_peer, sent, settled_as, settle, spend, released, key_released, act_step, step}
+use Rattle.ov_model.specs.Tables.{Peer, Key, Slots, Table, empty_table, change_first, without_first, has_id, has_serial, serials_of, by_rising_id, in_slot, with_slot, swapped, key_if_any, keys_in, keys_of, key_serials, by_id, by_serial, by_vpn, by_key_id, by_key, without_key}
+use Rattle.ov_model.specs.Step.{Outcome, replied, refused, where_found, change_peer, peer_of, peer_new_checks, peer_made, peer_new, peer_new_at, set_peer, peer_set_checks, peer_changed, peer_set, peer_get, peer_dump, removals, remove_peer, key_of_conf, with_key, key_new_checks, key_made, key_new, key_get, with_slots, slots_changed, key_swap, key_del, is_expired, expired_of, due_of, tick, down, hold_of, key_found, tx_look, rx_peer, rx_look, keep_look, sent_peer, sent, settled_as, settle, spend, released, key_released, act_step, step}
 use Rattle.ov_model.specs.Runs.{Follows, IsRun, table_after}
 use Rattle.ov_model.specs.Events.{steps_after, steps_of}
 use Rattle.ov_model.specs.Path.{removed}
 use Rattle.ov_model.specs.Removals.{times, removed_in, keys_taken_in}
 use Rattle.ov_model.specs.Lifetime.{peer_made_by, key_made_by}
 use Rattle.ov_model.proofs.Firsts.{map_changed, total_without, total_changed, total_kept, times_total}
+use Rattle.ov_model.proofs.Parts.{whole_total, parts_total}
 use Rattle.ov_model.proofs.Shapes.{Name, Kept, settle_kept}
 use Rattle.ov_model.proofs.StepCases.{unless_has, found_has, changed_has}
 use Rattle.ov_model.proofs.Times.{times-append, times_first}
@@ -190,6 +192,18 @@ remove_turns x t now id reason =
     (λ p found. removals_turns x t a now reason (p ∷ []) (without_first (has_id id) t.live) (reply.Removed (p.serial ∷ [])) refl refl refl
     (λ f. let out : total f (without_first (has_id id) t.live) + f p ≡ total f t.live = total_without f (has_id id) t.live p found in omega arith))
 
+tick_turns : (x : ℕ) (t : Table) (now : ℕ) → Turns x t (act.Do command.Tick) (tick t now)
+unfolding tick
+tick_turns x t now =
+    let gone : List Peer = expired_of now t.live in
+    removals_turns x t (act.Do command.Tick) now Expired gone (filter (λ p. not (is_expired now p)) t.live) (reply.Ticked (serials_of gone) (serials_of (due_of now t.live))) refl refl refl (λ f. parts_total f (is_expired now) t.live)
+
+down_turns : (x : ℕ) (t : Table) (now : ℕ) → Turns x t (act.Do command.Down) (down t now)
+unfolding down
+down_turns x t now =
+    let gone : List Peer = by_rising_id t.live in
+    removals_turns x t (act.Do command.Down) now Teardown gone [] (reply.Removed (serials_of gone)) refl refl refl (λ f. whole_total f t.live)
+
 -- The keys of a peer that is found are a part of all.
 keys_part : (x : ℕ) (fits : Peer → Bool) (ps : List Peer) (p : Peer) → find fits ps ≡ Some p → times x (peer_keys p) ≤ times x (slot_serials ps)
 keys_part x fits ps p found = rw (slots_total x ps)
@@ -258,6 +272,14 @@ look_turns x t a now p key none =
     found_has (Turns x t a) t now _ p _ (as_is reply.NoPeer refl)
     (λ q found. found_has (Turns x t a) t now _ (key q) _ (as_is reply.NoKey refl) (λ k has. as_is (reply.Hold (hold_of q k)) refl))
 
+keep_turns : (x : ℕ) (t : Table) (now peer : ℕ) → Turns x t (act.KeepLook peer) (keep_look t now peer)
+unfolding keep_look
+keep_turns x t now peer =
+    let a : Act = act.KeepLook peer in
+    let as_is : (r : Reply) → removed r ≡ [] → Turns x t a (replied t now r) = λ r gone. plain x t a now r gone refl refl in
+    found_has (Turns x t a) t now _ (by_serial peer t.live) _ (as_is reply.Skip refl)
+    (λ p found. found_has (Turns x t a) t now _ p.slots.primary _ (as_is reply.Skip refl) (λ k has. as_is (reply.Hold (hold_of p k)) refl))
+
 changed_turns : (x : ℕ) (t : Table) (a : Act) (now serial : ℕ) (live dying : Peer → Peer) (r : Reply) → ((p : Peer) → Kept p (live p)) → removed r ≡ [] → MakesNone a → Turns x t a (replied (change_peer serial live dying t) now r)
 changed_turns x t a now serial live dying r keeps gone none =
     let slots : times x (slot_serials (change_first (has_serial serial) live t.live)) ≡ times x (slot_serials t.live) =
@@ -310,6 +332,8 @@ turns x t now (act.Do (command.KeyDel id slot)) =
     let a : Act = act.Do (command.KeyDel id slot) in
     found_has (Turns x t a) t now _ (by_id id t.live) _ (plain x t a now (reply.Refused NoEntry) refl refl refl)
     (λ p found. slots_turns x t a now id (with_slot slot None) (key_if_any (in_slot slot p.slots)) p found refl refl (emptied_counts x slot p.slots.primary p.slots.secondary))
+turns x t now (act.Do command.Tick) = tick_turns x t now
+turns x t now (act.Do command.Down) = down_turns x t now
 turns x t now (act.TxLook a) = look_turns x t (act.TxLook a) now (by_vpn a t.live) (λ p. p.slots.primary) (λ r. (refl, refl))
 turns x t now (act.RxLook id key_id from) = look_turns x t (act.RxLook id key_id from) now (rx_peer id from t.live) (λ p. by_key_id key_id p.slots) (λ r. (refl, refl))
 turns x t now (act.Sent peer inner outer ping) =
@@ -318,6 +342,7 @@ turns x t now (act.Settle peer from k inner outer) =
     let s : Settled = settled_as peer k t.live in
     changed_turns x t (act.Settle peer from k inner outer) now peer _ _ (reply.Settled s) (λ p. settle_kept now t.live from s inner outer p) refl (λ r. (refl, refl))
 turns x t now (act.Spend peer key) = spent_turns x t now peer key
+turns x t now (act.KeepLook peer) = keep_turns x t now peer
 turns x t now (act.Released serial) = still x t (act.Released serial) _ refl refl refl refl refl refl refl refl
 turns x t now (act.KeyReleased serial) = still x t (act.KeyReleased serial) _ refl refl refl refl refl refl refl refl
 

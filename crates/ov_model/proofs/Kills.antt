@@ -37,6 +37,7 @@ killed_taken x t now (act.TxLook a) = rw (spares_all (act_step t now (act.TxLook
 killed_taken x t now (act.RxLook id key_id from) = rw (spares_all (act_step t now (act.RxLook id key_id from)).reply (act.RxLook id key_id from) refl) (omega arith)
 killed_taken x t now (act.Sent peer inner outer ping) = rw (spares_all (act_step t now (act.Sent peer inner outer ping)).reply (act.Sent peer inner outer ping) refl) (omega arith)
 killed_taken x t now (act.Settle peer from k inner outer) = rw (spares_all (act_step t now (act.Settle peer from k inner outer)).reply (act.Settle peer from k inner outer) refl) (omega arith)
+killed_taken x t now (act.KeepLook peer) = rw (spares_all (act_step t now (act.KeepLook peer)).reply (act.KeepLook peer) refl) (omega arith)
 killed_taken x t now (act.Released serial) = rw (spares_all (act_step t now (act.Released serial)).reply (act.Released serial) refl) (omega arith)
 killed_taken x t now (act.KeyReleased serial) = rw (spares_all (act_step t now (act.KeyReleased serial)).reply (act.KeyReleased serial) refl) (omega arith)
 

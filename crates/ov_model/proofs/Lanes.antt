@@ -13,7 +13,7 @@ use Rattle.ov_model.specs.declared.answer.Answer.{Answer}
 use Rattle.ov_model.specs.declared.replay.ReplayEntry.{ReplayEntry}
 use Rattle.ov_model.specs.Events.{Step, Judgement, judgement_of, is_at, of, shown, shown_in}
 use Rattle.ov_model.specs.Tables.{Material}
-use Rattle.ov_model.specs.Path.{Path, by_at_once, by_command, by_miss, by_round}
+use Rattle.ov_model.specs.Path.{Ping, skipped, pinged, PingFits, PingsFit, Path, by_at_once, by_command, by_miss, by_round, by_tick}
 use Rattle.ov_model.specs.Legal.{Meets, NeverFall, LaneMeets, LinesRise}
 use Rattle.ov_model.specs.Lanes.{LaneRuns, judged_in}
 
@@ -142,6 +142,16 @@ line_done {m} {via} ss shards lane lines line answers a now judged meets line_is
 abbrev pub Knows : (old new : ℕ → Option Material) → Type 0
 Knows old new = (key : ℕ) (x : Material) → old key ≡ Some x → new key ≡ Some x
 
+ping_knows : (old new : ℕ → Option Material) (peer : ℕ) (p : Ping) → Knows old new → PingFits old peer p → PingFits new peer p
+ping_knows old new peer skipped knows fits = tt
+ping_knows old new peer (pinged r) knows fits = (fits.0, (knows r.hold.key r.material fits.1.0, fits.1.1))
+
+pings_know : (old new : ℕ → Option Material) (due : List ℕ) (ps : List Ping) → Knows old new → PingsFit old due ps → PingsFit new due ps
+pings_know old new [] [] knows fits = tt
+pings_know old new (peer ∷ due) (p ∷ ps) knows fits = (ping_knows old new peer p knows fits.0, pings_know old new due ps knows fits.1)
+pings_know old new [] (p ∷ ps) knows fits = absurd fits
+pings_know old new (peer ∷ due) [] knows fits = absurd fits
+
 pub path_knows : (old new : ℕ → Option Material) (via : Addr → Addr) (place : Place) (line : Line) (ss : List Step) (js : List Judgement) (a : Answer) → Knows old new → Path old via place line ss js a → Path new via place line ss js a
 path_knows old new via place line ss js a knows (by_at_once r) = by_at_once r
 path_knows old new via place line ss js a knows (by_command r) = by_command r
@@ -149,7 +159,21 @@ path_knows old new via place line ss js a knows (by_miss r) = by_miss r
 path_knows old new via place line ss js a knows (by_round r) = by_round (record {
   round = r.round;
   begins_so = r.begins_so;
+  looks = r.looks;
   fits = (knows r.round.hold.key r.round.material r.fits.0, r.fits.1);
+  steps_are = r.steps_are;
+  judgements_are = r.judgements_are;
+  answer_is = r.answer_is;
+})
+path_knows old new via place line ss js a knows (by_tick r) = by_tick (record {
+  expired = r.expired;
+  due = r.due;
+  taken = r.taken;
+  os = r.os;
+  pings = r.pings;
+  is_tick = r.is_tick;
+  some = r.some;
+  fits = pings_know old new r.due r.pings knows r.fits;
   steps_are = r.steps_are;
   judgements_are = r.judgements_are;
   answer_is = r.answer_is;

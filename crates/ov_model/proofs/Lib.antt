@@ -1,5 +1,7 @@
 -- What the definitions of a peer id and a key id compute to.
 pub mod PeerIds
+-- What the attribute checks never make of a netlink message: a tick is the clock's alone.
+pub mod Checks
 -- A journal that goes on: what its last table, notes and steps are after more entries.
 pub mod Going
 -- A lane goes on: more steps of the line under way, and the line's answer.
@@ -8,6 +10,9 @@ pub mod Lanes
 pub mod Times
 -- The first member of a list that fits: it is found, changed, or taken out.
 pub mod Firsts
+-- The peers by rising id, and the members of a list that pass a test and those that don't: sums over them, and
+-- what holds of all of them.
+pub mod Parts
 -- What holds of each outcome that a step may have holds of the step.
 pub mod StepCases
 -- What a step tells: whom it removed, with its notes, and which ids the live peers have after it.
@@ -28,12 +33,14 @@ pub mod ReplayLemmas
 pub mod Counting
 -- No packet id of a key is accepted twice in a legal report.
 pub mod ReplayLaw
--- A nonce tells its packet id and its tail, and an id that stands at two places counts twice.
+-- A nonce tells its packet id and its tail; and where an id of a key counts once at most, it stands at one
+-- place.
 pub mod Nonces
 -- No nonce is used twice under the same bytes of a key, where no two keys seal with the same bytes and
 -- tail.
 pub mod NonceLaw
--- Each sealed answer of a legal report was sealed with a key that the history installed.
+-- Each sealed datagram of a legal report was sealed with a key that the history installed, and each ping for
+-- the peer that was due.
 pub mod SealedLaw
 -- The entries and the replay steps of one line, found in the report, and a run's reply at a place.
 pub mod Places

@@ -51,7 +51,7 @@ gone_unnamed : (y : Tally) → AllMove y → (t : Table) (es : List Entry) → F
 gone_unnamed y moves t [] follows gone j e at = cc
 gone_unnamed y moves t (f ∷ es) follows gone zero e at =
     let its : f ≡ e = cc in
-    let names : y.named f ≤ y.stands t + y.stands t = (moves t f follows.0 follows.1).names gone.made in
+    let names : y.named f ≤ y.stands t + y.stands t + y.stands t = (moves t f follows.0 follows.1).names gone.made in
     let nowhere : y.stands t ≡ 0 = gone.nowhere in
     let none : y.named f ≡ 0 = omega arith in
     sym (ap (λ (g : Entry). y.named g) its) ∙ none

@@ -112,14 +112,14 @@ shown_at (x ∷ rs) lane line k j at =
     there (is_at lane line x.place) at
 
 -- An element of two lists after one another.
-record Later (ys : List Judgement) (j : Judgement) : Type 0 where
-  k : ℕ
-  at : slice_get ys k ≡ Some j
+pub record Later {X : Type 0} (ys : List X) (y : X) : Type 0 where
+  pub k : ℕ
+  pub at : slice_get ys k ≡ Some y
 
-in_either : (xs ys : List Judgement) (k : ℕ) (j : Judgement) → slice_get (xs ++ ys) k ≡ Some j → (slice_get xs k ≡ Some j) ⊎ Later ys j
-in_either [] ys k j at = inr (record { k = k; at = at })
-in_either (x ∷ xs) ys zero j at = inl at
-in_either (x ∷ xs) ys (suc k) j at = in_either xs ys k j at
+pub in_either : {X : Type 0} (xs ys : List X) (k : ℕ) (y : X) → slice_get (xs ++ ys) k ≡ Some y → (slice_get xs k ≡ Some y) ⊎ Later ys y
+in_either [] ys k y at = inr (record { k = k; at = at })
+in_either (x ∷ xs) ys zero y at = inl at
+in_either (x ∷ xs) ys (suc k) y at = in_either xs ys k y at
 
 pub judged_found : (shards : List (List ReplayEntry)) (lane line k : ℕ) (j : Judgement) → slice_get (shown_in shards lane line) k ≡ Some j → JudgedAt shards j
 judged_found [] lane line k j at = cc

@@ -17,7 +17,7 @@ use Rattle.ov_model.specs.declared.command.Command.TheVariants as command
 use Rattle.ov_model.specs.declared.reply.Reply.{Reply}
 use Rattle.ov_model.specs.declared.reply.Reply.TheVariants as reply
 use Rattle.ov_model.specs.Tables.{Peer, Key, Slots, Table, has_serial, bare, serials_of, key_serials, key_if_any, keys_in, keys_of, in_slot, with_slot, swapped, by_id, by_serial, by_vpn, by_key_id, by_key}
-use Rattle.ov_model.specs.Step.{Outcome, replied, where_found, change_peer, key_found, tx_look, rx_peer, rx_look, sent_peer, sent, settled_as, settle, spend, peer_new_checks, peer_made, peer_new, peer_new_at, peer_set_checks, peer_changed, peer_set, peer_get, peer_dump, removals, remove_peer, key_new_checks, key_new, key_made, key_get, slots_changed, key_swap, key_del, released, key_released, command_step}
+use Rattle.ov_model.specs.Step.{Outcome, replied, where_found, change_peer, key_found, tx_look, rx_peer, rx_look, sent_peer, sent, settled_as, settle, spend, peer_new_checks, peer_made, peer_new, peer_new_at, peer_set_checks, peer_changed, peer_set, peer_get, peer_dump, removals, remove_peer, key_new_checks, key_new, key_made, key_get, slots_changed, key_swap, key_del, tick, down, keep_look, released, key_released, command_step}
 use Rattle.ov_model.specs.Path.{SomeOf, none, kept, removed, spent_reply, spent_taken}
 use Rattle.ov_model.proofs.Firsts.{map_changed}
 use Rattle.ov_model.proofs.StepCases.{unless_has, found_has, changed_has}
@@ -101,7 +101,7 @@ slots_join : (t : Table) (now : ℕ) (id : PeerId) (change : Slots → Slots) (o
 slots_join t now id change out = record { joined = sym (append-nil (serials t.dying)); keys_joined = map-append (λ (k : Key). k.serial) t.retired out }
 
 pub command_joins : (t : Table) (now : ℕ) (c : Command) → Joins t (command_step t now c)
-unfolding peer_new peer_set peer_get peer_dump remove_peer key_new key_get key_swap key_del
+unfolding peer_new peer_set peer_get peer_dump remove_peer key_new key_get key_swap key_del tick down
 command_joins t now (command.PeerNew a) = found_has (Joins t) t now _ a.remote _ (joins_plain t now _ refl) (λ remote is. new_joins t now a remote)
 command_joins t now (command.PeerSet a) = found_has (Joins t) t now _ (by_id a.id t.live) _ (joins_plain t now _ refl)
     (λ p found. unless_has (Joins t) t now (peer_set_checks t a) (peer_changed t now a) (λ e. joins_plain t now (reply.Refused e) refl)
@@ -117,6 +117,8 @@ command_joins t now (command.KeyGet id slot) = found_has (Joins t) t now _ (by_i
 command_joins t now (command.KeySwap id) = found_has (Joins t) t now _ (by_id id t.live) _ (joins_plain t now _ refl) (λ p found. slots_join t now id swapped [])
 command_joins t now (command.KeyDel id slot) = found_has (Joins t) t now _ (by_id id t.live) _ (joins_plain t now _ refl)
     (λ p found. slots_join t now id (with_slot slot None) (key_if_any (in_slot slot p.slots)))
+command_joins t now command.Tick = removals_join t now _ _ _ _ refl
+command_joins t now command.Down = removals_join t now _ _ _ _ refl
 
 -- ---- steps that remove nothing
 
@@ -141,6 +143,11 @@ tx_look_keeps t now a = look_keeps t now (by_vpn a t.live) (λ p. p.slots.primar
 pub rx_look_keeps : (t : Table) (now : ℕ) (id : PeerId) (key_id : KeyId) (from : Transport) → Keeps t (rx_look t now id key_id from)
 unfolding rx_look
 rx_look_keeps t now id key_id from = look_keeps t now (rx_peer id from t.live) (λ p. by_key_id key_id p.slots)
+
+pub keep_look_keeps : (t : Table) (now peer : ℕ) → Keeps t (keep_look t now peer)
+unfolding keep_look
+keep_look_keeps t now peer = found_has (Keeps t) t now _ (by_serial peer t.live) _ (plain_keeps t now reply.Skip refl)
+    (λ p found. found_has (Keeps t) t now _ p.slots.primary _ (plain_keeps t now reply.Skip refl) (λ k has. plain_keeps t now _ refl))
 
 -- A peer that is changed and keeps its serial.
 changed_keeps : (t : Table) (now serial : ℕ) (live dying : Peer → Peer) (r : Reply) → ((p : Peer) → (dying p).serial ≡ p.serial) → removed r ≡ [] → Keeps t (replied (change_peer serial live dying t) now r)

@@ -1,6 +1,6 @@
 -- What a step tells: whom it removed, with its notes, and which ids the live peers have after it.
 use Rattle.std.proofs.Common.{ℕ, ◌≡◌, ◌+◌, ◌≤◌, List, [], ◌∷◌, refl, ap, ◌∙◌, length, Bool, true, false, arith, if◌then◌else◌, ◌==◌}
-use Rattle.std.specs.Prelude.{map, filter, find, Option, Some, None, is_some}
+use Rattle.std.specs.Prelude.{map, filter, find, not, Option, Some, None, is_some}
 use Rattle.std.specs.List.{AllByRecursion}
 use Rattle.std.proofs.lemmas.Bool.{eq-eqb, ne_eqb}
 use Rattle.std.proofs.lemmas.List.{map-append}
@@ -9,6 +9,7 @@ use Rattle.ov_model.specs.declared.ident.PeerId.{PeerId}
 use Rattle.ov_model.specs.declared.command.Attrs.{Attrs}
 use Rattle.ov_model.specs.declared.command.KeyConf.{KeyConf}
 use Rattle.ov_model.specs.declared.command.Reason.{Reason}
+use Rattle.ov_model.specs.declared.command.Reason.TheVariants.{Expired, Teardown}
 use Rattle.ov_model.specs.declared.command.Command.TheVariants as command
 use Rattle.ov_model.specs.declared.act.Act.{Act}
 use Rattle.ov_model.specs.declared.act.Act.TheVariants as act
@@ -20,12 +21,13 @@ use Rattle.ov_model.specs.declared.reply.Reply.{Reply}
 use Rattle.ov_model.specs.declared.reply.Reply.TheVariants as reply
 use Rattle.ov_model.specs.declared.reply.Settled.{Settled}
 use Rattle.ov_model.specs.declared.reply.Settled.TheVariants as settled
-use Rattle.ov_model.specs.Tables.{Peer, Key, Slots, Table, without_first, has_id, has_serial, serials_of, in_slot, with_slot, swapped, key_if_any, by_id, by_serial, by_remote, by_vpn, by_key_id, by_key, without_key}
-use Rattle.ov_model.specs.Step.{Outcome, replied, refused, where_found, change_peer, peer_of, peer_new_checks, peer_made, peer_new, peer_new_at, set_peer, peer_set_checks, peer_changed, peer_set, peer_get, peer_dump, removals, remove_peer, key_of_conf, with_key, key_new_checks, key_made, key_new, key_get, with_slots, slots_changed, key_swap, key_del, hold_of, key_found, tx_look, rx_peer, rx_look, sent_peer, sent, received_peer, floated, settled_peer, settled_as, settle, spend, released, key_released, act_step, step}
+use Rattle.ov_model.specs.Tables.{Peer, Key, Slots, Table, without_first, has_id, has_serial, serials_of, by_rising_id, in_slot, with_slot, swapped, key_if_any, by_id, by_serial, by_remote, by_vpn, by_key_id, by_key, without_key}
+use Rattle.ov_model.specs.Step.{Outcome, replied, refused, where_found, change_peer, peer_of, peer_new_checks, peer_made, peer_new, peer_new_at, set_peer, peer_set_checks, peer_changed, peer_set, peer_get, peer_dump, removals, remove_peer, key_of_conf, with_key, key_new_checks, key_made, key_new, key_get, with_slots, slots_changed, key_swap, key_del, is_expired, expired_of, due_of, tick, down, hold_of, key_found, tx_look, rx_peer, rx_look, keep_look, sent_peer, sent, received_peer, floated, settled_peer, settled_as, settle, spend, released, key_released, act_step, step}
 use Rattle.ov_model.specs.Path.{removed}
 use Rattle.ov_model.specs.Removals.{id_by, reason_of, killed_by, is_peer_del, is_key_swap, del_note}
 use Rattle.ov_model.proofs.Lanes.{all_append}
 use Rattle.ov_model.proofs.Firsts.{all_found, all_without, map_changed}
+use Rattle.ov_model.proofs.Parts.{rising_all, filter_all}
 use Rattle.ov_model.proofs.StepCases.{unless_has, found_has, changed_has}
 
 -- What never changes of a peer.
@@ -136,6 +138,27 @@ remove_tells t now id reason =
     found_has (Tells t a) t now _ (by_id id t.live) _ (refusal t a now NoEntry)
     (λ p found. removals_tell t a now reason (p ∷ []) (without_first (has_id id) t.live) (reply.Removed (p.serial ∷ [])) refl refl refl (λ s. refl) (λ ids known. known_found ids (has_id id) t.live p found known))
 
+-- What is known of the live peers is known of those by rising id, and of those that pass a test and the others.
+known_rising : (ids : ℕ → Option PeerId) (ps : List Peer) → Known ids (names ps) → AllByRecursion (λ (p : Peer). ids p.serial ≡ Some p.id) (by_rising_id ps)
+known_rising ids ps known = rising_all (λ (p : Peer). ids p.serial ≡ Some p.id) ps (known_peers ids ps known)
+
+known_parts : (ids : ℕ → Option PeerId) (test : Peer → Bool) (ps : List Peer) → Known ids (names ps) → Known ids (names (filter test (by_rising_id ps))) × Known ids (names (filter (λ p. not (test p)) ps))
+known_parts ids test ps known =
+    let P : Peer → Type 0 = λ p. ids p.serial ≡ Some p.id in
+    (named ids (filter test (by_rising_id ps)) (filter_all P test (by_rising_id ps) (known_rising ids ps known)), named ids (filter (λ p. not (test p)) ps) (filter_all P (λ p. not (test p)) ps (known_peers ids ps known)))
+
+tick_tells : (t : Table) (now : ℕ) → Tells t (act.Do command.Tick) (tick t now)
+unfolding tick
+tick_tells t now =
+    let gone : List Peer = expired_of now t.live in
+    removals_tell t (act.Do command.Tick) now Expired gone (filter (λ p. not (is_expired now p)) t.live) (reply.Ticked (serials_of gone) (serials_of (due_of now t.live))) refl refl refl (λ s. refl) (λ ids known. known_parts ids (is_expired now) t.live known)
+
+down_tells : (t : Table) (now : ℕ) → Tells t (act.Do command.Down) (down t now)
+unfolding down
+down_tells t now =
+    let gone : List Peer = by_rising_id t.live in
+    removals_tell t (act.Do command.Down) now Teardown gone [] (reply.Removed (serials_of gone)) refl refl refl (λ s. refl) (λ ids known. (named ids gone (known_rising ids t.live known), tt))
+
 either_none : (b : Bool) → ◌≡◌ {A = Option PeerId} (if b then None else None) None
 either_none true = refl
 either_none false = refl
@@ -170,6 +193,14 @@ look_tells t a now p k =
 
 found_tells : (t : Table) (a : Act) (now : ℕ) (p : Option Peer) (key : Peer → Option Key) → Tells t a (where_found t now reply.NoPeer p (λ q. key_found t now q (key q)))
 found_tells t a now p key = found_has (Tells t a) t now _ p _ (quiet t a (replied t now reply.NoPeer) refl refl refl refl refl (λ s. refl)) (λ q found. look_tells t a now q (key q))
+
+keep_tells : (t : Table) (now peer : ℕ) → Tells t (act.KeepLook peer) (keep_look t now peer)
+unfolding keep_look
+keep_tells t now peer =
+    let a : Act = act.KeepLook peer in
+    let skip : Tells t a (replied t now reply.Skip) = quiet t a (replied t now reply.Skip) refl refl refl refl refl (λ s. refl) in
+    found_has (Tells t a) t now _ (by_serial peer t.live) _ skip
+    (λ p found. found_has (Tells t a) t now _ p.slots.primary _ skip (λ k has. quiet t a (replied t now (reply.Hold (hold_of p k))) refl refl refl refl refl (λ s. refl)))
 
 -- ---- what is done with a hold
 
@@ -244,6 +275,8 @@ tells t now (act.Do (command.KeySwap id)) =
 tells t now (act.Do (command.KeyDel id slot)) =
     let a : Act = act.Do (command.KeyDel id slot) in
     found_has (Tells t a) t now _ (by_id id t.live) _ (refusal t a now NoEntry) (λ p found. slots_tell t a now id (with_slot slot None) (key_if_any (in_slot slot p.slots)))
+tells t now (act.Do command.Tick) = tick_tells t now
+tells t now (act.Do command.Down) = down_tells t now
 tells t now (act.TxLook a) = found_tells t (act.TxLook a) now (by_vpn a t.live) (λ p. p.slots.primary)
 tells t now (act.RxLook id key_id from) = found_tells t (act.RxLook id key_id from) now (rx_peer id from t.live) (λ p. by_key_id key_id p.slots)
 tells t now (act.Sent peer inner outer ping) =
@@ -252,6 +285,7 @@ tells t now (act.Settle peer from k inner outer) =
     let s : Settled = settled_as peer k t.live in
     changed_tells t (act.Settle peer from k inner outer) now peer _ _ (reply.Settled s) (λ p. (settle_kept now t.live from s inner outer p).name) refl refl (λ n. refl)
 tells t now (act.Spend peer key) = spent_tells t now peer key
+tells t now (act.KeepLook peer) = keep_tells t now peer
 tells t now (act.Released serial) = quiet t (act.Released serial) _ refl refl refl refl refl (λ s. refl)
 tells t now (act.KeyReleased serial) = quiet t (act.KeyReleased serial) _ refl refl refl refl refl (λ s. refl)
 

@@ -1,16 +1,18 @@
 -- Where the serials of peers and keys stand, and how a run moves each: it is made once, stands at most once,
 -- and is named only where it stands.
 use Rattle.std.proofs.Common.{ℕ, ◌≡◌, ◌+◌, ◌<◌, ◌≤◌, zero, suc, List, [], ◌∷◌, ◌++◌, refl, sym, ap, ◌∙◌, Bool, true, false, arith, if◌then◌else◌, ◌==◌, ◌||◌, nat_eq, nat_le, inl, inr, ◌⊎◌}
-use Rattle.std.specs.Prelude.{map, find, Option, Some, None, is_some}
+use Rattle.std.specs.Prelude.{map, filter, find, not, Option, Some, None, is_some}
 use Rattle.std.specs.List.{list_any, IsDistinct}
 use Rattle.std.specs.Cmp.{first_so, second_so}
 use Rattle.std.proofs.lemmas.Bool.{cases_eq, eq-eqb, ne_eqb, or_cases}
 use Rattle.std.proofs.lemmas.Bool.Decides.{nat_tests}
 use Rattle.ov_model.specs.Limits.{most_peers, most_keys}
 use Rattle.ov_base.specs.Address.{same_transport}
+use Rattle.ov_base.specs.Sums.{total}
 use Rattle.ov_model.specs.declared.ident.PeerId.{PeerId}
 use Rattle.ov_model.specs.declared.ident.KeyId.{KeyId}
 use Rattle.ov_model.specs.declared.command.Reason.{Reason}
+use Rattle.ov_model.specs.declared.command.Reason.TheVariants.{Expired, Teardown}
 use Rattle.ov_model.specs.declared.command.Command.TheVariants as command
 use Rattle.ov_model.specs.declared.act.Act.{Act}
 use Rattle.ov_model.specs.declared.act.Act.TheVariants as act
@@ -18,13 +20,14 @@ use Rattle.ov_model.specs.declared.act.Call.{Call}
 use Rattle.ov_model.specs.declared.entry.Entry.{Entry}
 use Rattle.ov_model.specs.declared.reply.Reply.{Reply}
 use Rattle.ov_model.specs.declared.reply.Reply.TheVariants as reply
-use Rattle.ov_model.specs.Tables.{Peer, Key, Table, empty_table, serials_of, in_slot, key_if_any, keys_in, key_serials, has_id, by_key, by_key_id, by_id, by_serial, by_remote, by_vpn, has_vpn}
-use Rattle.ov_model.specs.Step.{Outcome, where_found, peer_new_checks, peer_made, peer_new, peer_set_checks, peer_changed, peer_set, peer_get, peer_dump, remove_peer, key_new_checks, key_made, key_new, key_get, key_swap, key_del, key_found, tx_look, rx_look, sent, settle, spend, released, key_released, act_step, step, is_there, is_retired, has_key, may_act, May}
+use Rattle.ov_model.specs.Tables.{Peer, Key, Table, empty_table, serials_of, in_slot, key_if_any, keys_in, key_serials, has_id, has_serial, by_rising_id, by_key, by_key_id, by_id, by_serial, by_remote, by_vpn, has_vpn}
+use Rattle.ov_model.specs.Step.{Outcome, replied, where_found, peer_new_checks, peer_made, peer_new, peer_set_checks, peer_changed, peer_set, peer_get, peer_dump, removals, remove_peer, key_new_checks, key_made, key_new, key_get, key_swap, key_del, is_expired, expired_of, due_of, tick, down, hold_of, key_found, tx_look, rx_look, keep_look, sent, settle, spend, released, key_released, act_step, step, is_there, is_retired, has_key, may_act, May}
 use Rattle.ov_model.specs.Runs.{Follows, IsRun, table_after, last_table}
 use Rattle.ov_model.specs.Path.{removed}
 use Rattle.ov_model.specs.Removals.{released_by, key_released_by, times}
-use Rattle.ov_model.specs.Lifetime.{peers_in_act, peer_made_by, peers_in_reply, keys_in_act, key_made_by, keys_in_reply, peers_named, keys_named}
-use Rattle.ov_model.proofs.Firsts.{is_of, later_any}
+use Rattle.ov_model.specs.Lifetime.{peers_in_act, peer_kept, peer_made_by, peers_in_reply, keys_in_act, key_made_by, keys_in_reply, peers_named, keys_named}
+use Rattle.ov_model.proofs.Firsts.{is_of, later_any, found_of, times_total}
+use Rattle.ov_model.proofs.Parts.{whole_total, parts_total}
 use Rattle.ov_model.proofs.StepCases.{unless_has, unless_passed, found_has}
 use Rattle.ov_model.proofs.Times.{times-append, times_first, distinct_times}
 use Rattle.ov_model.proofs.KeysTaken.{slot_serials, peer_keys, slots_first, MakesNext, Turns, step_turns}
@@ -134,6 +137,7 @@ act_stands t (act.RxLook id key_id from) may = nobody t
 act_stands t (act.Sent peer inner outer ping) may = record { peers = λ x. peer_there x peer t may; keys = (nobody t).keys }
 act_stands t (act.Settle peer from k inner outer) may = record { peers = λ x. peer_there x peer t may; keys = (nobody t).keys }
 act_stands t (act.Spend peer key) may = record { peers = λ x. peer_there x peer t (first_so _ _ may); keys = λ x. key_there x key t (second_so _ _ may) }
+act_stands t (act.KeepLook peer) may = nobody t
 act_stands t (act.Released peer) may = record { peers = λ x. peer_dies x peer t may; keys = (nobody t).keys }
 act_stands t (act.KeyReleased key) may = record { peers = (nobody t).peers; keys = λ x. key_retires x key t may }
 
@@ -154,14 +158,39 @@ removed_shows t now id reason = found_has (Shown t) t now _ (by_id id t.live) _ 
   keys = (nobody t).keys;
 })
 
+removals_show : (t : Table) (now : ℕ) (reason : Reason) (gone left : List Peer) (r : Reply) → peers_in_reply r ≡ serials_of gone → keys_in_reply r ≡ [] → ((f : Peer → ℕ) → total f left + total f gone ≡ total f t.live) → Shown t (removals t now reason gone left r)
+removals_show t now reason gone left r are none parts = record {
+  peers = λ x. (
+      let serial : Peer → ℕ = λ p. p.serial in
+      let lives : times x (serials_of left) + times x (serials_of gone) ≡ times x (serials_of t.live) = rw (times_total serial x left, times_total serial x gone, times_total serial x t.live) (parts (λ p. times x (p.serial ∷ []))) in
+      rw are (omega arith));
+  keys = λ x. rw none (omega arith);
+}
+
+tick_shows : (t : Table) (now : ℕ) → Shown t (tick t now)
+unfolding tick
+tick_shows t now =
+    let gone : List Peer = expired_of now t.live in
+    removals_show t now Expired gone (filter (λ p. not (is_expired now p)) t.live) (reply.Ticked (serials_of gone) (serials_of (due_of now t.live))) refl refl (λ f. parts_total f (is_expired now) t.live)
+
+down_shows : (t : Table) (now : ℕ) → Shown t (down t now)
+unfolding down
+down_shows t now =
+    let gone : List Peer = by_rising_id t.live in
+    removals_show t now Teardown gone [] (reply.Removed (serials_of gone)) refl refl (λ f. whole_total f t.live)
+
 -- A look-up holds a live peer that it found, and a key of that peer.
-look_shows : (t : Table) (now : ℕ) (fits : Peer → Bool) (p : Option Peer) (key : Peer → Option Key) → find fits t.live ≡ p → ((x : ℕ) (q : Peer) (k : Key) → key q ≡ Some k → times x (k.serial ∷ []) ≤ times x (peer_keys q)) → Shown t (where_found t now reply.NoPeer p (λ q. key_found t now q (key q)))
-look_shows t now fits p key is own = found_has (Shown t) t now _ p _ (nobody t) (λ q at. found_has (Shown t) t now _ (key q) _ (nobody t) (λ k has.
+held_shows : (t : Table) (now : ℕ) (missing empty : Reply) → Shows t missing → Shows t empty → (fits : Peer → Bool) (p : Option Peer) (key : Peer → Option Key) → find fits t.live ≡ p → ((x : ℕ) (q : Peer) (k : Key) → key q ≡ Some k → times x (k.serial ∷ []) ≤ times x (peer_keys q))
+    → Shown t (where_found t now missing p (λ q. where_found t now empty (key q) (λ k. replied t now (reply.Hold (hold_of q k)))))
+held_shows t now missing empty shows_missing shows_empty fits p key is own = found_has (Shown t) t now _ p _ shows_missing (λ q at. found_has (Shown t) t now _ (key q) _ shows_empty (λ k has.
     let found : find fits t.live ≡ Some q = is ∙ at in
     record {
       peers = λ x. (let live : times x (q.serial ∷ []) ≤ times x (serials_of t.live) = found_stands (λ (r : Peer). r.serial) fits x t.live q found in omega arith);
       keys = λ x. (let its : times x (k.serial ∷ []) ≤ times x (peer_keys q) = own x q k has in let slots : times x (peer_keys q) ≤ times x (slot_serials t.live) = found_slots fits x t.live q found in omega arith);
     }))
+
+look_shows : (t : Table) (now : ℕ) (fits : Peer → Bool) (p : Option Peer) (key : Peer → Option Key) → find fits t.live ≡ p → ((x : ℕ) (q : Peer) (k : Key) → key q ≡ Some k → times x (k.serial ∷ []) ≤ times x (peer_keys q)) → Shown t (where_found t now reply.NoPeer p (λ q. key_found t now q (key q)))
+look_shows t now fits p key is own = held_shows t now reply.NoPeer reply.NoKey (nobody t) (nobody t) fits p key is own
 
 primary_stands : (x : ℕ) (a b : Option Key) (k : Key) → a ≡ Some k → times x (k.serial ∷ []) ≤ times x (key_serials (key_if_any a ++ key_if_any b))
 primary_stands x None b k is = cc
@@ -174,7 +203,7 @@ key_id_stands : (x : ℕ) (key_id : KeyId) (p : Peer) (k : Key) → by_key_id ke
 key_id_stands x key_id p k is = found_stands (λ (q : Key). q.serial) (λ q. q.key_id.number == key_id.number) x (keys_in p.slots) k is
 
 pub reply_stands : (t : Table) (now : ℕ) (a : Act) → may_act t a ≡ true → Shows t (act_step t now a).reply
-unfolding peer_new peer_set peer_get peer_dump key_new key_get key_swap key_del tx_look rx_look sent settle spend released key_released
+unfolding peer_new peer_set peer_get peer_dump key_new key_get key_swap key_del tx_look rx_look keep_look sent settle spend released key_released
 reply_stands t now (act.Do (command.PeerNew a)) may = found_has (Shown t) t now _ a.remote _ (nobody t) (λ remote is. unless_has (Shown t) t now (peer_new_checks t a remote) (peer_made t now a remote) (λ e. nobody t) (nobody t))
 reply_stands t now (act.Do (command.PeerGet id)) may = found_has (Shown t) t now _ (by_id id t.live) _ (nobody t) (λ p found. nobody t)
 reply_stands t now (act.Do (command.PeerSet a)) may = found_has (Shown t) t now _ (by_id a.id t.live) _ (nobody t) (λ p found. unless_has (Shown t) t now (peer_set_checks t a) (peer_changed t now a) (λ e. nobody t) (nobody t))
@@ -184,6 +213,8 @@ reply_stands t now (act.Do (command.KeySwap id)) may = found_has (Shown t) t now
 reply_stands t now (act.Do (command.KeyDel id slot)) may = found_has (Shown t) t now _ (by_id id t.live) _ (nobody t) (λ p found. nobody t)
 reply_stands t now (act.Do (command.Remove id reason)) may = removed_shows t now id reason
 reply_stands t now (act.Do (command.KeyNew c)) may = found_has (Shown t) t now _ (by_id c.peer t.live) _ (nobody t) (λ p found. unless_has (Shown t) t now (key_new_checks t) (key_made t now c p) (λ e. nobody t) (nobody t))
+reply_stands t now (act.Do command.Tick) may = tick_shows t now
+reply_stands t now (act.Do command.Down) may = down_shows t now
 reply_stands t now (act.TxLook a) may = look_shows t now (has_vpn a) (by_vpn a t.live) (λ p. p.slots.primary) refl (λ x q k is. primary_stands x q.slots.primary q.slots.secondary k is)
 reply_stands t now (act.RxLook id key_id from) may =
     let key : Peer → Option Key = λ p. by_key_id key_id p.slots in
@@ -194,8 +225,21 @@ reply_stands t now (act.RxLook id key_id from) may =
 reply_stands t now (act.Sent peer inner outer ping) may = nobody t
 reply_stands t now (act.Settle peer from k inner outer) may = nobody t
 reply_stands t now (act.Spend peer key) may = found_has (Shown t) t now _ (by_serial peer t.live) _ (nobody t) (λ p found. found_has (Shown t) t now _ (by_key key p.slots) _ (nobody t) (λ k has. nobody t))
+reply_stands t now (act.KeepLook peer) may = held_shows t now reply.Skip reply.Skip (nobody t) (nobody t) (has_serial peer) (by_serial peer t.live) (λ p. p.slots.primary) refl (λ x q k is. primary_stands x q.slots.primary q.slots.secondary k is)
 reply_stands t now (act.Released peer) may = record { peers = λ x. peer_dies x peer t may; keys = (nobody t).keys }
 reply_stands t now (act.KeyReleased key) may = record { peers = (nobody t).peers; keys = λ x. key_retires x key t may }
+
+-- A peer that was due and is held is live.
+pub kept_stands : (x : ℕ) (t : Table) (now : ℕ) (a : Act) → times x (peer_kept a (act_step t now a).reply) ≤ peer_stands x t
+unfolding keep_look
+kept_stands x t now (act.KeepLook peer) =
+    let P : Outcome → Type 0 = λ o. times x (peer_kept (act.KeepLook peer) o.reply) ≤ peer_stands x t in
+    found_has P t now _ (by_serial peer t.live) _ (omega arith)
+    (λ p found. found_has P t now _ p.slots.primary _ (omega arith) (λ k has.
+    let live : times x (p.serial ∷ []) ≤ times x (serials_of t.live) = found_stands (λ (q : Peer). q.serial) (has_serial peer) x t.live p found in
+    let its : p.serial ≡ peer = found_of (λ (q : Peer). q.serial) peer t.live p found in
+    rw (← its) (omega arith)))
+kept_stands x t now _ = omega arith
 
 -- ---- one serial along a run
 
@@ -220,7 +264,7 @@ pub record Moves (y : Tally) (t : Table) (e : Entry) : Type 0 where
   pub new : ℕ
   pub comes : Comes y.serial (y.made t) (y.made (step t e.call).after) new
   pub balance : y.stands (step t e.call).after + y.freed e ≡ y.stands t + new
-  pub names : y.serial < y.made t → y.named e ≤ y.stands t + y.stands t
+  pub names : y.serial < y.made t → y.named e ≤ y.stands t + y.stands t + y.stands t
 
 -- It stands at most once, and only where it was made.
 pub record Room (y : Tally) (t : Table) : Type 0 where
@@ -276,11 +320,17 @@ peer_tally x = record {
   named = λ e. times x (peers_named e);
 }
 
--- What stands in three lists in a row.
+-- What stands in three lists in a row, and in four.
 three : (x : ℕ) (xs ys zs : List ℕ) → times x (xs ++ ys ++ zs) ≡ times x xs + times x ys + times x zs
 three x xs ys zs =
     let last : times x (xs ++ ys ++ zs) ≡ times x (xs ++ ys) + times x zs = times-append x (xs ++ ys) zs in
     let first : times x (xs ++ ys) ≡ times x xs + times x ys = times-append x xs ys in
+    omega arith
+
+four : (x : ℕ) (ws xs ys zs : List ℕ) → times x (ws ++ xs ++ ys ++ zs) ≡ times x ws + times x xs + times x ys + times x zs
+four x ws xs ys zs =
+    let last : times x (ws ++ xs ++ ys ++ zs) ≡ times x (ws ++ xs ++ ys) + times x zs = times-append x (ws ++ xs ++ ys) zs in
+    let first : times x (ws ++ xs ++ ys) ≡ times x ws + times x xs + times x ys = three x ws xs ys in
     omega arith
 
 pub peer_moves : (x : ℕ) → AllMove (peer_tally x)
@@ -293,7 +343,8 @@ peer_moves x t e may same =
     let dying : times x (serials_of o.after.dying) + times x (released_by e.call.act) ≡ times x (serials_of t.dying) + times x (removed o.reply) = (act_balance x t _ e.call.act may).peers in
     let in_act : times x (peers_in_act e.call.act) ≤ peer_stands x t = (act_stands t e.call.act may).peers x in
     let in_reply : times x (peers_in_reply e.reply) ≤ peer_stands x t = rw (← same) ((reply_stands t _ e.call.act may).peers x) in
-    let all : times x (peers_named e) ≡ times x (peers_in_act e.call.act) + times x (peer_made_by e.call.act e.reply) + times x (peers_in_reply e.reply) = three x (peers_in_act e.call.act) (peer_made_by e.call.act e.reply) (peers_in_reply e.reply) in
+    let kept : times x (peer_kept e.call.act e.reply) ≤ peer_stands x t = rw (← same) (kept_stands x t _ e.call.act) in
+    let all : times x (peers_named e) ≡ times x (peers_in_act e.call.act) + times x (peer_kept e.call.act e.reply) + times x (peer_made_by e.call.act e.reply) + times x (peers_in_reply e.reply) = four x (peers_in_act e.call.act) (peer_kept e.call.act e.reply) (peer_made_by e.call.act e.reply) (peers_in_reply e.reply) in
     record {
       new = times x new;
       comes = comes;

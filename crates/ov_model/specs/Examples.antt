@@ -2,7 +2,7 @@
 -- client of OpenVPN sends it, inner packets, the messages of the netlink family, next hops by routes, and the
 -- steps of the peer table with their refusals.
 -- The datagram's bytes are those that another implementation of AES-GCM makes of the same key and packet.
-use Rattle.std.specs.Prelude.{ℕ, ◌≡◌, List, [], ◌∷◌, Option, Some, None, Ok, Err, replicate}
+use Rattle.std.specs.Prelude.{ℕ, ◌≡◌, List, [], ◌∷◌, true, false, Option, Some, None, Ok, Err, replicate, map}
 use Rattle.ov_aes.specs.declared.key_bytes.KeyBytes.TheVariants.{K16}
 use Rattle.ov_base.specs.declared.address.Addr.{Addr}
 use Rattle.ov_base.specs.declared.address.Addr.TheVariants.{V4, V6}
@@ -15,11 +15,12 @@ use Rattle.ov_model.specs.declared.command.Attrs.{Attrs}
 use Rattle.ov_model.specs.declared.command.Keepalive.{Keepalive}
 use Rattle.ov_model.specs.declared.command.KeyDir.{KeyDir}
 use Rattle.ov_model.specs.declared.command.Command.TheVariants as command
-use Rattle.ov_model.specs.declared.command.Reason.TheVariants.{Userspace}
+use Rattle.ov_model.specs.declared.command.Reason.TheVariants.{Userspace, Expired, Teardown}
 use Rattle.ov_model.specs.declared.command.Slot.{Slot}
 use Rattle.ov_model.specs.declared.command.Slot.TheVariants.{Primary, Secondary}
 use Rattle.ov_model.specs.declared.line.Deed.TheVariants as deed
 use Rattle.ov_model.specs.declared.line.Route.{Route}
+use Rattle.ov_model.specs.declared.note.NoteBody.TheVariants as note
 use Rattle.ov_model.specs.declared.netlink.NlMessage.{NlMessage}
 use Rattle.ov_model.specs.declared.netlink.NlPeer.{NlPeer}
 use Rattle.ov_model.specs.declared.netlink.NlKeyDir.{NlKeyDir}
@@ -36,7 +37,7 @@ use Rattle.ov_model.specs.Ident.{peer_id, key_id}
 use Rattle.ov_model.specs.Packets.{short, data_v1, control, data_v2, head_of, datagram, opened, v4, v6, not_ip, inner_of, ping, kind_of, keepalive}
 use Rattle.ov_model.specs.Replay.{Accepted, verdict_of}
 use Rattle.ov_model.specs.Path.{first, begins, kind_via}
-use Rattle.ov_model.specs.Step.{peer_of, hold_of, settled_as, peer_new, peer_set, peer_dump, key_get, key_swap, key_del, tx_look, step}
+use Rattle.ov_model.specs.Step.{peer_of, hold_of, settled_as, peer_new, peer_set, peer_dump, key_get, key_swap, key_del, is_expired, is_due, tick, down, tx_look, keep_look, settle, step}
 use Rattle.ov_model.specs.Tables.{Key, Peer, Table, empty_table, view_of}
 use Rattle.ov_model.specs.Via.{via_of}
 
@@ -281,6 +282,79 @@ pub record LookExamples (id : PeerId) (k l : Key) : Type 0 where
   pub no_key : (step (table_5 id None (Some l) 1) (record { at = 0; act = act.TxLook (V4 (10 ∷ 8 ∷ 0 ∷ 5 ∷ [])) })).reply ≡ reply.NoKey
   pub earlier : (step (record empty_table { moment = 7 }) (record { at = 5; act = act.Do (command.PeerGet id) })).after.moment ≡ 7
   pub later : (step (record empty_table { moment = 7 }) (record { at = 9; act = act.Do (command.PeerGet id) })).after.moment ≡ 9
+
+-- The peer 5, heard of and sent to at the moment 100, with these keepalive times.
+abbrev pub timed_5 : PeerId → Option Key → (interval timeout : ℕ) → Peer
+timed_5 id primary interval timeout = record (live_5 id primary None) { keepalive = record { interval = interval; timeout = timeout }; last_received = 100; last_sent = 100 }
+
+-- The peer 6, heard of and sent to at the moment 50, with a ping every 10 seconds and the end after 60.
+abbrev pub timed_6 : PeerId → Peer
+timed_6 other = record (live_6 other) { keepalive = often; last_received = 50; last_sent = 50 }
+
+-- A table with both.
+abbrev pub timed_both : PeerId → PeerId → Key → Table
+timed_both id other k = record empty_table { live = timed_6 other ∷ timed_5 id (Some k) 10 60 ∷ []; made = 2 }
+
+-- Which peers are due a ping and which expire, by their keepalive times, and a tick at the moment 110, at which
+-- the peer 6 was silent for 60 seconds and nothing was sent to the peer 5 for 10.
+pub record TickExamples (id other : PeerId) (k : Key) : Type 0 where
+  -- a ping is due at exactly its interval, and not a second before
+  pub due : is_due 110 (timed_5 id (Some k) 10 60) ≡ true
+  pub not_due : is_due 109 (timed_5 id (Some k) 10 60) ≡ false
+  -- a peer expires at exactly its timeout, and not a second before; the expired one is due no ping
+  pub expired : is_expired 160 (timed_5 id (Some k) 10 60) ≡ true
+  pub not_expired : is_expired 159 (timed_5 id (Some k) 10 60) ≡ false
+  pub last_ping : is_due 159 (timed_5 id (Some k) 10 60) ≡ true
+  pub no_ping : is_due 160 (timed_5 id (Some k) 10 60) ≡ false
+  -- 0 means never
+  pub no_timeout : is_expired 4294967295 (timed_5 id (Some k) 10 0) ≡ false
+  pub no_interval : is_due 4294967295 (timed_5 id (Some k) 0 0) ≡ false
+  -- without a primary key nothing can be sealed
+  pub no_primary : is_due 110 (record (timed_5 id None 10 60) { slots = record { primary = None; secondary = Some k } }) ≡ false
+  pub reply_is : (tick (timed_both id other k) 110).reply ≡ reply.Ticked (1 ∷ []) (0 ∷ [])
+  pub left : (tick (timed_both id other k) 110).after.live ≡ timed_5 id (Some k) 10 60 ∷ []
+  pub dying : (tick (timed_both id other k) 110).after.dying ≡ timed_6 other ∷ []
+  pub noted : (tick (timed_both id other k) 110).notes ≡ note.PeerDel other Expired ∷ []
+  -- a second before nobody expires; where the peer 6 has a key too, both are due, by rising id
+  pub both_due : (tick (record empty_table { live = record (timed_6 other) { slots = record { primary = Some k; secondary = None } } ∷ timed_5 id (Some k) 9 60 ∷ []; made = 2 }) 109).reply ≡ reply.Ticked [] (0 ∷ 1 ∷ [])
+
+-- down: the peers go by rising id, in whichever order they were made, with their keys and a note each.
+pub record DownExamples (id other : PeerId) (k : Key) : Type 0 where
+  pub none : (down empty_table 0).reply ≡ reply.Removed []
+  pub as_made : (down (both id other (Some k)) 0).reply ≡ reply.Removed (0 ∷ 1 ∷ [])
+  pub other_way : (down (record (both id other (Some k)) { live = live_6 other ∷ live_5 id (Some k) None ∷ [] }) 0).reply ≡ reply.Removed (0 ∷ 1 ∷ [])
+  pub left : (down (both id other (Some k)) 0).after.live ≡ []
+  pub dying : (down (both id other (Some k)) 0).after.dying ≡ live_5 id None None ∷ live_6 other ∷ []
+  pub taken : (down (both id other (Some k)) 0).taken ≡ k.serial ∷ []
+  pub noted : (down (both id other (Some k)) 0).notes ≡ note.PeerDel id Teardown ∷ note.PeerDel other Teardown ∷ []
+  -- a ping that was due finds nobody
+  pub skipped : (keep_look (down (both id other (Some k)) 0).after 0 0).reply ≡ reply.Skip
+
+-- The look-up of a peer that was due: its primary key is held. Without one, and where the peer is live no more,
+-- there is no ping.
+pub record KeepExamples (id : PeerId) (k : Key) : Type 0 where
+  pub held : (keep_look (table_5 id (Some k) None 1) 0 0).reply ≡ reply.Hold (hold_of (live_5 id (Some k) None) k)
+  pub no_primary : (keep_look (table_5 id None (Some k) 1) 0 0).reply ≡ reply.Skip
+  pub nobody : (keep_look (table_5 id (Some k) None 1) 0 1).reply ≡ reply.Skip
+
+-- A transport that no peer has.
+abbrev pub transport_7 : Transport
+transport_7 = record { addr = V4 (192 ∷ 0 ∷ 2 ∷ 7 ∷ []); port = 1194 }
+
+-- Where the live peers are reached after a ping of the peer 5 came from a transport.
+abbrev pub reached_after : PeerId → PeerId → Transport → List Transport
+reached_after id other from = map (λ p. p.remote) (settle (both id other None) 0 0 (Some from) inner_kind.Ping 16 40).after.live
+
+-- A peer floats to the transport that its datagram came from where no live peer has it, and stays where one has
+-- it. One that is removed doesn't float.
+pub record FloatExamples (id other : PeerId) : Type 0 where
+  pub moves : reached_after id other transport_7 ≡ transport_7 ∷ transport_6 ∷ []
+  pub taken : reached_after id other transport_6 ≡ transport_5 ∷ transport_6 ∷ []
+  pub own : reached_after id other transport_5 ≡ transport_5 ∷ transport_6 ∷ []
+  -- the port alone differs
+  pub other_port : reached_after id other (record transport_5 { port = 1195 }) ≡ record transport_5 { port = 1195 } ∷ transport_6 ∷ []
+  pub not_owner : map (λ p. p.remote) (settle (both id other None) 0 0 (Some transport_7) (inner_kind.From (V4 (10 ∷ 8 ∷ 0 ∷ 6 ∷ []))) 20 44).after.live ≡ transport_7 ∷ transport_6 ∷ []
+  pub removed : map (λ p. p.remote) (settle (record empty_table { dying = live_5 id None None ∷ [] }) 0 0 (Some transport_7) inner_kind.Ping 16 40).after.dying ≡ transport_5 ∷ []
 
 -- The ids that there are: 5 is one, 16777215 the last, and 7 the last key id.
 pub record IdExamples : Type 0 where

@@ -15,6 +15,10 @@ use Rattle.ov_model.specs.declared.reply.Reply.{Reply}
 use Rattle.ov_model.specs.declared.reply.Reply.TheVariants as reply
 use Rattle.ov_model.specs.declared.answer.Answer.{Answer}
 use Rattle.ov_model.specs.declared.answer.Answer.TheVariants as answer
+use Rattle.ov_model.specs.declared.answer.PingOut.{PingOut}
+use Rattle.ov_model.specs.declared.answer.PingOutcome.{PingOutcome}
+use Rattle.ov_model.specs.declared.answer.PingOutcome.TheVariants as outcome
+use Rattle.ov_model.specs.declared.answer.SealedOut.{SealedOut}
 use Rattle.ov_model.specs.declared.report.LaneLog.{LaneLog}
 use Rattle.ov_model.specs.declared.report.Report.{Report}
 use Rattle.ov_model.specs.Limits.{greatest_packet_id}
@@ -58,10 +62,29 @@ KeysDiffer journal = IsDistinct same_dir (sealing_in journal)
 
 -- ---- packet ids
 
--- The packet id that an answer sealed, with its key's serial.
+-- What a ping's outcome sealed.
+abbrev pub sealed_ping : PingOutcome → List SealedOut
+sealed_ping (outcome.Sealed s) = s ∷ []
+sealed_ping _ = []
+
+-- What some pings sealed, in their order.
+abbrev pub sealed_pings : List PingOut → List SealedOut
+sealed_pings [] = []
+sealed_pings (p ∷ pings) = sealed_ping p.outcome ++ sealed_pings pings
+
+-- What an answer sealed: a packet, or the pings of a tick in their order.
+abbrev pub sealed_outs : Answer → List SealedOut
+sealed_outs (answer.Sealed s) = s ∷ []
+sealed_outs (answer.Ticked expired pings) = sealed_pings pings
+sealed_outs _ = []
+
+-- The packet id of what was sealed, with its key's serial.
+abbrev pub id_of : SealedOut → DrawnId
+id_of s = record { key = s.key; id = s.id }
+
+-- The packet ids that an answer sealed, in order.
 abbrev pub sealed_ids : Answer → List DrawnId
-sealed_ids (answer.Sealed s) = record { key = s.key; id = s.id } ∷ []
-sealed_ids _ = []
+sealed_ids a = map id_of (sealed_outs a)
 
 -- The packet ids that some answers sealed, in the order of their lines, each with its key's serial.
 abbrev pub sealed_in : List Answer → List DrawnId

@@ -9,13 +9,21 @@ use Rattle.ov_model.specs.declared.reply.Reply.{Reply}
 use Rattle.ov_model.specs.declared.reply.Reply.TheVariants as reply
 use Rattle.ov_model.specs.Removals.{times}
 
--- The peer that an act is about: the one that sent or received, whose key is spent, or that is let go.
+-- The peer that an act is about: the one that sent or received, whose key is spent, or that is let go. For the
+-- look-up of a peer that was due it takes the reply too: see peer_kept.
 abbrev pub peers_in_act : Act → List ℕ
 peers_in_act (act.Sent peer inner outer ping) = peer ∷ []
 peers_in_act (act.Settle peer from k inner outer) = peer ∷ []
 peers_in_act (act.Spend peer key) = peer ∷ []
 peers_in_act (act.Released peer) = peer ∷ []
 peers_in_act _ = []
+
+-- The peer that was due and is looked up, unless the reply is Skip: since the tick it may have been let go, and
+-- then the look-up asks for it in vain.
+abbrev pub peer_kept : Act → Reply → List ℕ
+peer_kept (act.KeepLook peer) reply.Skip = []
+peer_kept (act.KeepLook peer) _ = peer ∷ []
+peer_kept _ _ = []
 
 -- The peer that an entry made, by the serial of its reply.
 abbrev pub peer_made_by : Act → Reply → List ℕ
@@ -26,6 +34,7 @@ peer_made_by _ _ = []
 abbrev pub peers_in_reply : Reply → List ℕ
 peers_in_reply (reply.Hold h) = h.peer ∷ []
 peers_in_reply (reply.Removed peers) = peers
+peers_in_reply (reply.Ticked expired due) = expired
 peers_in_reply (reply.Released peer) = peer ∷ []
 peers_in_reply _ = []
 
@@ -48,7 +57,7 @@ keys_in_reply _ = []
 
 -- All peers that an entry names, by its act and by its reply.
 abbrev pub peers_named : Entry → List ℕ
-peers_named e = peers_in_act e.call.act ++ peer_made_by e.call.act e.reply ++ peers_in_reply e.reply
+peers_named e = peers_in_act e.call.act ++ peer_kept e.call.act e.reply ++ peer_made_by e.call.act e.reply ++ peers_in_reply e.reply
 
 -- All keys that an entry names, by its act and by its reply.
 abbrev pub keys_named : Entry → List ℕ

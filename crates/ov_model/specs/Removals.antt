@@ -5,6 +5,7 @@ use Rattle.std.specs.Option.{option_or}
 use Rattle.std.specs.List.{IsDistinct, AllByRecursion}
 use Rattle.ov_model.specs.declared.ident.PeerId.{PeerId}
 use Rattle.ov_model.specs.declared.command.Reason.{Reason}
+use Rattle.ov_model.specs.declared.command.Reason.TheVariants.{Expired, Teardown}
 use Rattle.ov_model.specs.declared.command.Command.TheVariants as command
 use Rattle.ov_model.specs.declared.act.Act.{Act}
 use Rattle.ov_model.specs.declared.act.Act.TheVariants as act
@@ -33,9 +34,12 @@ abbrev pub id_in : List Entry → ℕ → Option PeerId
 id_in [] serial = None
 id_in (e ∷ es) serial = option_or (id_by e.reply e.call.act serial) (id_in es serial)
 
--- The reason with which an act removes: peer-del's own.
+-- The reason with which an act removes: peer-del's own, a tick's that the peers expired, and that the device
+-- goes down.
 abbrev pub reason_of : Act → Option Reason
 reason_of (act.Do (command.Remove id reason)) = Some reason
+reason_of (act.Do command.Tick) = Some Expired
+reason_of (act.Do command.Down) = Some Teardown
 reason_of _ = None
 
 -- The serials of the peers that a journal removed, in order.

@@ -9,4 +9,6 @@ abbrev pub Fits : Deed → Type 0
 Fits (deed.Netlink m) = ⊤
 Fits (deed.Tx packet) = length packet ≤ longest_packet
 Fits (deed.Rx from bytes) = length bytes ≤ longest_datagram
+Fits deed.Tick = ⊤
+Fits deed.Down = ⊤
 Fits (deed.Lost id reason) = ⊤

@@ -1,6 +1,6 @@
 -- One step of the serial peer table: the table after it, its reply, the keys that it took out of a
 -- slot, and its notifications. One definition for each act, its refusals in their order.
-use Rattle.std.specs.Prelude.{ℕ, ◌+◌, ◌-◌, ◌^◌, ◌≡◌, max, min, List, [], ◌∷◌, ◌++◌, Bool, true, false, Option, Some, None, is_some, is_none, if◌then◌else◌, nat_le, ◌==◌, ◌&&◌, ◌||◌, map, unwrap_or}
+use Rattle.std.specs.Prelude.{ℕ, ◌+◌, ◌-◌, ◌^◌, ◌≡◌, max, min, List, [], ◌∷◌, ◌++◌, Bool, true, false, Option, Some, None, is_some, is_none, if◌then◌else◌, nat_lt, nat_le, not, ◌==◌, ◌&&◌, ◌||◌, filter, map, unwrap_or}
 use Rattle.std.specs.List.{list_any}
 use Rattle.std.specs.Option.{option_or}
 use Rattle.ov_base.specs.declared.address.Addr.{Addr}
@@ -12,6 +12,7 @@ use Rattle.ov_model.specs.declared.command.Attrs.{Attrs}
 use Rattle.ov_model.specs.declared.command.KeyConf.{KeyConf}
 use Rattle.ov_model.specs.declared.command.Slot.{Slot}
 use Rattle.ov_model.specs.declared.command.Reason.{Reason}
+use Rattle.ov_model.specs.declared.command.Reason.TheVariants.{Expired, Teardown}
 use Rattle.ov_model.specs.declared.command.Command.{Command}
 use Rattle.ov_model.specs.declared.command.Command.TheVariants as command
 use Rattle.ov_model.specs.declared.act.Act.{Act}
@@ -219,6 +220,32 @@ unfoldable pub key_del : Table → ℕ → PeerId → Slot → Outcome
 key_del t now id slot = where_found t now (reply.Refused NoEntry) (by_id id t.live)
     (λ p. slots_changed t now id (with_slot slot None) (key_if_any (in_slot slot p.slots)))
 
+-- Nothing was heard of a peer for its keepalive timeout, where it has one.
+abbrev pub is_expired : ℕ → Peer → Bool
+is_expired now p = nat_lt 0 p.keepalive.timeout && nat_le p.keepalive.timeout (now - p.last_received)
+
+-- A peer that isn't expired and has a primary key is due a ping: nothing was sent to it for its keepalive
+-- interval, where it has one.
+abbrev pub is_due : ℕ → Peer → Bool
+is_due now p = not (is_expired now p) && (nat_lt 0 p.keepalive.interval && (is_some p.slots.primary && nat_le p.keepalive.interval (now - p.last_sent)))
+
+-- The expired peers, by rising id.
+abbrev pub expired_of : ℕ → List Peer → List Peer
+expired_of now live = filter (is_expired now) (by_rising_id live)
+
+-- The peers that are due a ping, by rising id.
+abbrev pub due_of : ℕ → List Peer → List Peer
+due_of now live = filter (is_due now) (by_rising_id live)
+
+-- tick: the expired peers are removed, and the reply names them and those that are due a ping.
+unfoldable pub tick : Table → ℕ → Outcome
+tick t now = removals t now Expired (expired_of now t.live) (filter (λ p. not (is_expired now p)) t.live)
+    (reply.Ticked (serials_of (expired_of now t.live)) (serials_of (due_of now t.live)))
+
+-- down: all live peers are removed, by rising id.
+unfoldable pub down : Table → ℕ → Outcome
+down t now = removals t now Teardown (by_rising_id t.live) [] (reply.Removed (serials_of (by_rising_id t.live)))
+
 -- ---- look-ups
 
 -- A hold on a peer and its key, with the peer's remote at this step.
@@ -242,6 +269,11 @@ rx_peer id from peers = if id.number == greatest_peer_id then by_remote from pee
 -- Whose a datagram is, and which of that peer's keys: the one with the head's key id.
 unfoldable pub rx_look : Table → ℕ → PeerId → KeyId → Transport → Outcome
 rx_look t now id key_id from = where_found t now reply.NoPeer (rx_peer id from t.live) (λ p. key_found t now p (by_key_id key_id p.slots))
+
+-- Whether a peer that was due still takes a ping: it is live, and its primary slot holds a key.
+unfoldable pub keep_look : Table → (now peer : ℕ) → Outcome
+keep_look t now peer = where_found t now reply.Skip (by_serial peer t.live)
+    (λ p. where_found t now reply.Skip p.slots.primary (λ k. replied t now (reply.Hold (hold_of p k))))
 
 -- ---- what is done with a hold
 
@@ -349,6 +381,8 @@ command_step t now (command.KeyNew c) = key_new t now c
 command_step t now (command.KeyGet id slot) = key_get t now id slot
 command_step t now (command.KeySwap id) = key_swap t now id
 command_step t now (command.KeyDel id slot) = key_del t now id slot
+command_step t now command.Tick = tick t now
+command_step t now command.Down = down t now
 
 -- The step of an act at a moment.
 abbrev pub act_step : Table → ℕ → Act → Outcome
@@ -358,6 +392,7 @@ act_step t now (act.RxLook id key_id from) = rx_look t now id key_id from
 act_step t now (act.Sent peer inner outer ping) = sent t now peer inner outer ping
 act_step t now (act.Settle peer from k inner outer) = settle t now peer from k inner outer
 act_step t now (act.Spend peer key) = spend t now peer key
+act_step t now (act.KeepLook peer) = keep_look t now peer
 act_step t now (act.Released serial) = released t now serial
 act_step t now (act.KeyReleased serial) = key_released t now serial
 
@@ -382,6 +417,7 @@ may_act t (act.RxLook id key_id from) = true
 may_act t (act.Sent peer inner outer ping) = is_there peer t.live || is_there peer t.dying
 may_act t (act.Settle peer from k inner outer) = is_there peer t.live || is_there peer t.dying
 may_act t (act.Spend peer key) = (is_there peer t.live || is_there peer t.dying) && (list_any (has_key key) t.live || is_retired key t.retired)
+may_act t (act.KeepLook peer) = true
 may_act t (act.Released serial) = is_there serial t.dying
 may_act t (act.KeyReleased serial) = is_retired serial t.retired
 

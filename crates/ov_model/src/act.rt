@@ -49,6 +49,8 @@ pub enum Act {
         peer: u32,
         key: u32,
     },
+    /// Whether a peer that a tick found due still takes a ping: it is held with its primary key.
+    KeepLook(u32),
     /// A removed peer is let go: nobody holds it any more.
     Released(u32),
     /// A key that was taken out of its slot is let go: nobody holds it any more.

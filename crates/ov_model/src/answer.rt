@@ -2,7 +2,7 @@
 
 use crate::ident::PeerId;
 use crate::reply::Reply;
-use ov_base::{Octets, Transport};
+use ov_base::{ListOf, Octets, Transport};
 
 /// Why a packet or a datagram was dropped.
 #[derive(Clone, Copy, Debug, PartialEq, Eq)]
@@ -42,6 +42,24 @@ pub struct SealedOut {
     pub datagram: Octets,
 }
 
+/// What became of a ping.
+#[derive(Debug, Drop, PartialEq, Eq)]
+pub enum PingOutcome {
+    /// The keepalive message was sealed.
+    Sealed(SealedOut),
+    /// The key has given its last packet id.
+    Spent,
+    /// The peer is live no more, or has no primary key.
+    Skip,
+}
+
+/// The serial of a peer that a tick found due, and what became of its ping.
+#[derive(Debug, Drop, PartialEq, Eq)]
+pub struct PingOut {
+    pub peer: u32,
+    pub outcome: PingOutcome,
+}
+
 /// The answer of one line.
 #[derive(Debug, Drop, PartialEq, Eq)]
 pub enum Answer {
@@ -50,10 +68,19 @@ pub enum Answer {
     /// An inner packet was sealed.
     Sealed(SealedOut),
     /// A datagram's inner packet is delivered, as the peer's with this id.
-    Delivered { peer: PeerId, packet: Octets },
+    Delivered {
+        peer: PeerId,
+        packet: Octets,
+    },
     /// A datagram was the keepalive message of the peer with this id.
     Keepalive(PeerId),
     /// A datagram isn't a data packet: it is passed to the control program.
     Control,
     Dropped(DropCause),
+    /// A tick: the serials of the removed peers and an outcome for each peer that was due, both by rising peer
+    /// id.
+    Ticked {
+        expired: ListOf<u32>,
+        pings: ListOf<PingOut>,
+    },
 }

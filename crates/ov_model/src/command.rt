@@ -97,4 +97,8 @@ pub enum Command {
     KeySwap(PeerId),
     /// The key in a slot is taken out.
     KeyDel(PeerId, Slot),
+    /// The clock moved: peers that were silent for too long are removed, and those are told that are due a ping.
+    Tick,
+    /// The device goes down: all peers are removed.
+    Down,
 }

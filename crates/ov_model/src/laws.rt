@@ -5,14 +5,14 @@ ghost use Rattle.ov_model.specs.declared.entry.Entry.{Entry};
 ghost use Rattle.ov_model.specs.Runs.{IsRun, notes_of};
 ghost use Rattle.ov_model.specs.Removals.{RemovalsNoted, AllReleased, EachReleasedOnce};
 ghost use Rattle.ov_model.specs.Keys.{KeysDiffer};
-ghost use Rattle.ov_model.specs.Laws.{OfEveryLegal, OfEveryRouted, SealsUnderHeld, NoncesDiffer, AcceptsOnce};
+ghost use Rattle.ov_model.specs.Laws.{OfEveryLegal, OfEveryRouted, SealsUnderHeld, NoncesDiffer, PingsGoToDue, AcceptsOnce};
 ghost use Rattle.ov_model.specs.Delivery.{DeliversExactly, DeliversReceived, DeliversOnce};
 ghost use Rattle.ov_model.specs.declared.ident.KeyId.{KeyId};
 ghost use Rattle.ov_model.specs.declared.ident.PeerId.{PeerId};
 ghost use Rattle.ov_model.specs.Ident.{peer_id, key_id};
 ghost use Rattle.ov_model.specs.Lifetime.{PeersStayReleased, KeysStayReleased};
 ghost use Rattle.ov_model.specs.Tables.{Key};
-ghost use Rattle.ov_model.specs.Examples.{WindowExamples, DatagramExamples, InnerExamples, MessageExamples, NewExamples, SetExamples, SlotExamples, DumpExamples, LookExamples, IdExamples, ViaExamples, RouteExample};
+ghost use Rattle.ov_model.specs.Examples.{WindowExamples, DatagramExamples, InnerExamples, MessageExamples, NewExamples, SetExamples, SlotExamples, DumpExamples, LookExamples, TickExamples, DownExamples, KeepExamples, FloatExamples, IdExamples, ViaExamples, RouteExample};
 
 /// In every run the notes of each removal are those of the removed peers, in order, with the reason,
 /// and no peer is removed twice. Each entry that killed a key has exactly one key-swap note, no other entry
@@ -25,14 +25,16 @@ pub fn removals()
         AllReleased journal ↔ EachReleasedOnce journal }
 {}
 
-/// The nonce law: in every legal report each sealed answer's datagram holds the packet of its line. It was
-/// sealed with the key that the line's look-up held, as the history installed it; its head names the held
-/// peer and key, and its nonce is made of the answer's packet id and that key's nonce tail. And where no two
-/// keys of the history have the same sealing key and tail, no two sealed answers at different places, of
-/// whatever lanes, have the same bytes of the key and the same nonce.
+/// The nonce law: in every legal report each sealed datagram, of a packet or of a tick's ping, holds the packet
+/// of its line or the keepalive message. It was sealed with the key that a look-up of the line held, as the
+/// history installed it; its head names the held peer and key, and its nonce is made of its packet id and that
+/// key's nonce tail. And where no two keys of the history have the same sealing key and tail, no two sealed
+/// datagrams at different places, of whatever lines and lanes, have the same bytes of the key and the same nonce.
+/// Each sealed ping is one for the peer that the tick's answer names with it.
 pub fn n1()
     ensures sealed { OfEveryLegal SealsUnderHeld }
     ensures differ { OfEveryLegal (λ report. KeysDiffer report.journal → NoncesDiffer report) }
+    ensures pings { OfEveryLegal PingsGoToDue }
 {}
 
 /// The replay law: in every legal report any two different replay steps that accept differ in their key
@@ -59,8 +61,8 @@ pub fn delivered_once()
 {}
 
 /// The lifetime law: in every run, no entry after the one that let a peer go names that peer, neither in
-/// its act nor in its reply: the peer isn't held, used, removed, let go or made again. The same holds of
-/// keys. So it is in every legal report.
+/// its act nor in its reply: the peer isn't held, used, removed, let go or made again, and a look-up of a peer
+/// that was due asks for it in vain. The same holds of keys. So it is in every legal report.
 pub fn n4()
     ensures peers { (journal : List Entry) → IsRun journal → PeersStayReleased journal }
     ensures keys { (journal : List Entry) → IsRun journal → KeysStayReleased journal }
@@ -70,7 +72,8 @@ pub fn n4()
 /// Worked examples of the definitions, each computed from them: where the replay window ends and where a gap
 /// makes a floor, what a datagram and an inner packet are read as, how a datagram opens and doesn't, what
 /// becomes of a message of each operation, the refusals of peer-new in their order, what peer-set replaces and
-/// refuses, the operations on slots, the order of a dump, the look-ups, and the next hop by routes.
+/// refuses, the operations on slots, the order of a dump, the look-ups, when a ping is due and a peer expires, the
+/// order of a down, the look-up of a peer that was due, when a peer floats, and the next hop by routes.
 pub fn examples()
     ensures window { WindowExamples }
     ensures datagrams { DatagramExamples }
@@ -85,6 +88,10 @@ pub fn examples()
     ensures dump { (id other : PeerId) → id.number ≡ 5 → other.number ≡ 6 → DumpExamples id other }
     ensures looks { (id : PeerId) (k l : Key) → (id.number == 16777215) ≡ false →
         (k.key_id.number == l.key_id.number) ≡ false → LookExamples id k l }
+    ensures tick { (id other : PeerId) (k : Key) → id.number ≡ 5 → other.number ≡ 6 → TickExamples id other k }
+    ensures down { (id other : PeerId) (k : Key) → id.number ≡ 5 → other.number ≡ 6 → DownExamples id other k }
+    ensures keep { (id : PeerId) (k : Key) → KeepExamples id k }
+    ensures float { (id other : PeerId) → FloatExamples id other }
     ensures via { ViaExamples }
     ensures route { (id : PeerId) (k : Key) → RouteExample id k }
 {}

@@ -21,7 +21,7 @@ pub mod stand;
 pub mod via;
 
 pub use act::{Act, Call, InnerKind};
-pub use answer::{Answer, DropCause, SealedOut};
+pub use answer::{Answer, DropCause, PingOut, PingOutcome, SealedOut};
 pub use command::{Attrs, Command, Keepalive, KeyConf, KeyDir, Reason, Slot};
 pub use draw::Drawn;
 pub use entry::Entry;

@@ -14,6 +14,10 @@ pub enum Deed {
     Tx(Octets),
     /// A datagram comes from a transport, at most 65,507 bytes.
     Rx { from: Transport, datagram: Octets },
+    /// The clock moved: peers expire, and those that nothing was sent to for long get a ping.
+    Tick,
+    /// The device goes down: all peers are removed.
+    Down,
     /// The transport of a peer is lost: it is removed with this reason.
     Lost { id: PeerId, reason: Reason },
 }

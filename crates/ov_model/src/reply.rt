@@ -97,11 +97,19 @@ pub enum Reply {
     NoPeer,
     /// The peer has no such key.
     NoKey,
+    /// The peer that is due is live no more, or its primary slot is empty: it gets no ping.
+    Skip,
     Settled(Settled),
     /// The spent key was taken out of its slot.
     Killed,
     /// The spent key stood in no slot of the peer any more.
     AlreadyGone,
+    /// The serials of the peers that were silent for too long and are removed, and of those that are due a
+    /// ping, both by rising peer id.
+    Ticked {
+        expired: ListOf<u32>,
+        due: ListOf<u32>,
+    },
     /// The serial of the peer that was let go.
     Released(u32),
     /// The serial of the key that was let go.

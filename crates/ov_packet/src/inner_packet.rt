@@ -1,7 +1,7 @@
 // Inner packets: their addresses, and the keepalive message.
 
 ghost use Rattle.std.specs.Prelude.{◌≡◌, ◌≤◌, ◌+◌, length, take, drop};
-ghost use Rattle.ov_model.specs.Packets.{inner_of, is_ping};
+ghost use Rattle.ov_model.specs.Packets.{inner_of, is_ping, keepalive};
 ghost use Rattle.ov_packet.specs.Packet.{inner_told};
 
 /// The first byte of an IP packet is the version times this and four other bits.
@@ -62,6 +62,13 @@ fn bytes_at<const N: usize>(packet: &[u8], at: usize) -> [u8; N]
     let mut bytes = [0; N];
     bytes.copy_from_slice(&packet[at..at + N]);
     bytes
+}
+
+/// The keepalive message, 16 bytes.
+pub fn keepalive_message() -> [u8; 16]
+    ensures exactly { result ≡ keepalive }
+{
+    KEEPALIVE
 }
 
 /// Whether a packet is the keepalive message.

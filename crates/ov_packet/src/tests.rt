@@ -1,5 +1,8 @@
-use crate::{Head, HeadStop, InnerFacts, inner, is_keepalive, nonce, read_head, write_head};
-use ov_model::{KeyId, PeerId};
+use crate::{
+    Head, HeadStop, InnerFacts, inner, is_keepalive, nonce, read_head, write_datagram, write_head,
+};
+use ov_gcm::GcmKey;
+use ov_model::{KeyBytes, KeyId, PeerId};
 use std::test::Fail;
 
 /// A head, where its numbers are in range.
@@ -103,9 +106,41 @@ fn a_packet_shorter_than_its_header_is_not_ip(rt: HostRuntime) -> Result<(), Fai
 fn the_keepalive_message_is_one_packet_only(rt: HostRuntime) -> Result<(), Fail> {
     let mut packet = 0x2a187bf3641eb4cb07ed2d0a981fc748_u128.to_be_bytes();
     assert!(rt; is_keepalive(&packet));
+    assert_eq!(rt; crate::keepalive_message(), packet);
     assert_eq!(rt; inner(&packet), InnerFacts::NotIp);
     assert!(rt; !is_keepalive(&packet[..15]));
     packet[15] ^= 1;
     assert!(rt; !is_keepalive(&packet));
     Ok(())
+}
+
+/// The first of these packets as a datagram of peer id 0x010203 with key id 7 and packet id 0x04050607, under the
+/// key 00..1f and the tail 10..17. The tag and the ciphertext are those of Python's `cryptography`,
+/// `AESGCM(bytes(range(32))).encrypt`; it puts the tag last.
+const DATAGRAM: [u8; 44] = [
+    0x4f, 0x01, 0x02, 0x03, 0x04, 0x05, 0x06, 0x07, 0x53, 0x63, 0xb2, 0x74, 0x71, 0xf1, 0x28, 0x0c,
+    0xb1, 0x3e, 0x4e, 0x30, 0x4f, 0x1c, 0xc3, 0x27, 0xa2, 0xbc, 0xa9, 0xbe, 0xde, 0xac, 0xcb, 0x81,
+    0x71, 0x77, 0x3c, 0xa4, 0xcb, 0x04, 0x7d, 0xe4, 0xdf, 0xfc, 0x69, 0x45,
+];
+
+/// The bytes 0 to 31.
+fn counted() -> [u8; 32] {
+    let mut bytes = [0; 32];
+    for i in 0..32 {
+        bytes[i] = i as u8;
+    }
+    bytes
+}
+
+#[test]
+fn a_datagram_is_as_another_implementation_seals_it(rt: HostRuntime) {
+    let Some(head) = head_of(0x010203, 7, 0x04050607) else {
+        panic!(rt; "no head");
+    };
+    let key = GcmKey::new(&KeyBytes::K32(counted()));
+    let tail = [16, 17, 18, 19, 20, 21, 22, 23];
+    let Ok(datagram) = write_datagram(rt.alloc(), &head, &key, tail, &V4_PACKET) else {
+        panic!(rt; "no memory");
+    };
+    assert!(rt; datagram.as_slice() == DATAGRAM.as_slice());
 }

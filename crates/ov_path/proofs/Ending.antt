@@ -1,12 +1,13 @@
 -- A line that is over: its events and its answer have a path.
 use Rattle.std.proofs.Common.{ℕ, ◌≡◌, List, [], ◌∷◌, ◌++◌, refl, sym, ◌∙◌, ap, append-nil, subst, Bool, true, false}
-use Rattle.std.specs.Prelude.{Option, Some, None, is_some, Result, Ok, Err}
+use Rattle.std.specs.Prelude.{Option, Some, None, is_some, is_none, if◌then◌else◌, ◌&&◌, Result, Ok, Err}
 use Rattle.std.proofs.lemmas.List.{map-append}
 use Rattle.ov_base.specs.declared.address.Addr.{Addr}
 use Rattle.ov_model.specs.declared.place.Place.{Place}
 use Rattle.ov_model.specs.declared.act.Act.{Act}
+use Rattle.ov_model.specs.declared.act.Act.TheVariants as act
+use Rattle.ov_model.specs.declared.command.Command.TheVariants as command
 use Rattle.ov_model.specs.declared.hold.Given.{Given}
-use Rattle.ov_model.specs.declared.hold.Given.TheVariants as given
 use Rattle.ov_model.specs.declared.hold.Owed.{Owed}
 use Rattle.ov_model.specs.declared.hold.Owed.TheVariants as owed
 use Rattle.ov_model.specs.declared.reply.HoldView.{HoldView}
@@ -23,16 +24,20 @@ use Rattle.ov_model.specs.declared.answer.Answer.{Answer}
 use Rattle.ov_model.specs.declared.answer.Answer.TheVariants as answer
 use Rattle.ov_model.specs.declared.answer.DropCause.{DropCause}
 use Rattle.ov_model.specs.Tables.{Material}
-use Rattle.ov_model.specs.Events.{Event, GaveKey, GavePeer, release_of, releases, steps_in, judgements_in, draws_in}
+use Rattle.ov_model.specs.Events.{Event, GaveKey, GavePeer, Step, step_of, release_of, releases, steps_in, judgements_in, draws_in}
 use Rattle.ov_model.specs.Keys.{sealed_ids}
-use Rattle.ov_model.specs.Path.{at_once, first, begins, IsLook, IsMiss, UseFits, settled_answer, Columns, use_row, owed_where, hold_owed, by_at_once, by_command, by_miss, by_round}
-use Rattle.ov_path.specs.Desks.{Holding, View, Called, owed_if, first_owed, look_holds}
-use Rattle.ov_path.specs.Stages.{ends}
+use Rattle.ov_model.specs.Path.{at_once, first, begins, IsLook, IsMiss, UseFits, settled_answer, Columns, use_row, owed_where, hold_owed, PingsFit, pings_steps, pings_out, by_at_once, by_command, by_miss, by_round, by_tick}
+use Rattle.ov_path.specs.Desks.{Holding, View, Called, owed_if, first_owed, first_of, look_holds}
+use Rattle.ov_path.specs.Stages.{ends, left_in, is_pause, is_ended}
+use Rattle.ov_path.specs.declared.stage.Pinging.{Pinging}
+use Rattle.ov_path.specs.declared.stage.Pings.{Pings}
 use Rattle.ov_path.specs.declared.stage.Stage.{Stage}
 use Rattle.ov_path.specs.declared.stage.Stage.TheVariants as stage
-use Rattle.ov_path.specs.Walks.{released, use_events, AtReplied, AtPeerGiven, Walking, Over, IsOpen, GoesOn}
+use Rattle.ov_path.specs.Walks.{released, use_events, AtReplied, AtPeerGiven, Ticks, Walking, Over, IsOpen, GoesOn}
 use Rattle.ov_path.proofs.Beginning.{at_once_unsealed}
-use Rattle.ov_path.proofs.Going.{LookSays, look_says, all_done, same_head}
+use Rattle.ov_path.proofs.Seeing.{lefts, all_done, same_head}
+use Rattle.ov_path.proofs.Ticks.{paused, pause_free, is_last, last_owed, not_so}
+use Rattle.ov_path.proofs.Going.{LookSays, look_says}
 
 -- ---- columns
 
@@ -62,7 +67,13 @@ draws_released place at (o ∷ os) = draws_released place at os
 
 steps_of_use : (via : Addr → Addr) (place : Place) (at : ℕ) (d : Deed) (h : HoldView) (m : Material) (u : Use) (es : List Event) → steps_in (use_events via place at d h m u ++ es) ≡ (use_row via place at d h m u).steps ++ steps_in es
 steps_of_use via place at (deed.Netlink n) h m u es = refl
+steps_of_use via place at deed.Down h m u es = refl
 steps_of_use via place at (deed.Lost id reason) h m u es = refl
+steps_of_use via place at deed.Tick h m (used.Sealed i) es = refl
+steps_of_use via place at deed.Tick h m (used.Spent killed) es = refl
+steps_of_use via place at deed.Tick h m used.BadTag es = refl
+steps_of_use via place at deed.Tick h m (used.Refused v) es = refl
+steps_of_use via place at deed.Tick h m (used.Settled s) es = refl
 steps_of_use via place at (deed.Tx packet) h m (used.Sealed i) es = refl
 steps_of_use via place at (deed.Tx packet) h m (used.Spent killed) es = refl
 steps_of_use via place at (deed.Tx packet) h m used.BadTag es = refl
@@ -76,7 +87,13 @@ steps_of_use via place at (deed.Rx from bytes) h m (used.Settled s) es = refl
 
 judgements_of_use : (via : Addr → Addr) (place : Place) (at : ℕ) (d : Deed) (h : HoldView) (m : Material) (u : Use) (es : List Event) → judgements_in (use_events via place at d h m u ++ es) ≡ (use_row via place at d h m u).judgements ++ judgements_in es
 judgements_of_use via place at (deed.Netlink n) h m u es = refl
+judgements_of_use via place at deed.Down h m u es = refl
 judgements_of_use via place at (deed.Lost id reason) h m u es = refl
+judgements_of_use via place at deed.Tick h m (used.Sealed i) es = refl
+judgements_of_use via place at deed.Tick h m (used.Spent killed) es = refl
+judgements_of_use via place at deed.Tick h m used.BadTag es = refl
+judgements_of_use via place at deed.Tick h m (used.Refused v) es = refl
+judgements_of_use via place at deed.Tick h m (used.Settled s) es = refl
 judgements_of_use via place at (deed.Tx packet) h m (used.Sealed i) es = refl
 judgements_of_use via place at (deed.Tx packet) h m (used.Spent killed) es = refl
 judgements_of_use via place at (deed.Tx packet) h m used.BadTag es = refl
@@ -97,7 +114,13 @@ settled_unsealed settled.NotOwner h packet = refl
 -- What a use draws is what it seals.
 draws_of_use : (via : Addr → Addr) (place : Place) (at : ℕ) (d : Deed) (h : HoldView) (m : Material) (u : Use) (es : List Event) → UseFits d m u → draws_in es ≡ [] → draws_in (use_events via place at d h m u ++ es) ≡ sealed_ids (use_row via place at d h m u).answer
 draws_of_use via place at (deed.Netlink n) h m u es fits none = absurd fits
+draws_of_use via place at deed.Down h m u es fits none = absurd fits
 draws_of_use via place at (deed.Lost id reason) h m u es fits none = absurd fits
+draws_of_use via place at deed.Tick h m (used.Sealed i) es fits none = rw none refl
+draws_of_use via place at deed.Tick h m (used.Spent killed) es fits none = none
+draws_of_use via place at deed.Tick h m used.BadTag es fits none = absurd fits
+draws_of_use via place at deed.Tick h m (used.Refused v) es fits none = absurd fits
+draws_of_use via place at deed.Tick h m (used.Settled s) es fits none = absurd fits
 draws_of_use via place at (deed.Tx packet) h m (used.Sealed i) es fits none = rw none refl
 draws_of_use via place at (deed.Tx packet) h m (used.Spent killed) es fits none = none
 draws_of_use via place at (deed.Tx packet) h m used.BadTag es fits none = absurd fits
@@ -119,6 +142,7 @@ nothing_over {via = via} {line = line} b k begins_so = record {
   hold = k.hold;
   path = by_at_once (record { begins_so = begins_so; steps_are = rw k.trail.none refl; judgements_are = rw k.trail.none refl });
   drawn = rw k.trail.none (sym (at_once_unsealed via line.deed b begins_so));
+  left = k.due;
 }
 
 miss_holds : (before : Holding) (r : Reply) (cause : DropCause) → IsMiss r cause → look_holds before r ≡ before
@@ -138,6 +162,7 @@ missed_over {view = view} {d = d} {e = e} look r cause k begins_so is_look miss 
       hold = called.leaves.hold_is ∙ says.hold ∙ miss_holds (view d).hold r cause miss ∙ k.hold;
       path = by_miss (record { look = look; r = r; cause = cause; begins_so = begins_so; looks = is_look; misses = miss; steps_are = rw (called.leaves.events, k.trail.none, says.takes) refl; judgements_are = rw (called.leaves.events, k.trail.none) refl; answer_is = refl });
       drawn = rw (called.leaves.events, k.trail.none) refl;
+      left = lefts k.due called.leaves ∙ says.left_so;
     }
 
 -- A command after its releases.
@@ -149,12 +174,14 @@ replied_over {via = via} {place = place} {line = line} {w = w} {b = b} k none =
     record {
       owes = none;
       hold = k.hold;
+      left = k.due;
       path = by_command (record {
         command = t.command;
         r = t.r;
         taken = t.taken;
         os = t.all;
         begins_so = t.begins_so;
+        not_tick = t.not_tick;
         some = t.some;
         steps_are = rw (t.events, ← all) (same_head _ (steps_in (released place line.at t.done)) (releases place line.at t.done) (steps_released place line.at t.done));
         judgements_are = rw t.events (judgements_released place line.at t.done);
@@ -162,14 +189,6 @@ replied_over {via = via} {place = place} {line = line} {w = w} {b = b} k none =
       });
       drawn = rw (t.events, t.answer) (draws_released place line.at t.done);
     }
-
-abbrev is_last : Given → Bool
-is_last given.More = false
-is_last given.Last = true
-
-last_owed : (g : Given) (o : Owed) → owed_if g o ≡ owed_where (is_last g) o
-last_owed given.More o = refl
-last_owed given.Last o = refl
 
 -- A hold after its releases.
 held_over : {via : Addr → Addr} {place : Place} {line : Line} {w : View} {h : HoldView} {u : Use} {b : Answer} →
@@ -195,15 +214,55 @@ held_over {via = via} {place = place} {line = line} {w = w} {h = h} {u = u} {b =
     record {
       owes = none;
       hold = k.hold;
+      left = k.due;
       path = by_round (record {
         round = record { look = t.held.look; hold = h; material = t.m; made = u; key = is_last t.key; peer = is_last t.peer };
         begins_so = t.held.begins_so;
+        looks = t.held.looks;
         fits = (t.held.has, t.fits);
         steps_are = ap steps_in t.held.events ∙ same_head _ _ _ steps;
         judgements_are = ap judgements_in t.held.events ∙ judgements;
         answer_is = t.answer;
       });
       drawn = ap draws_in t.held.events ∙ draws_of_use via place line.at line.deed h t.m u back t.fits back_draws ∙ ap sealed_ids (sym t.answer);
+    }
+
+-- Both of two tests hold.
+both_hold : (a b : Bool) → (a && b) ≡ true → (a ≡ true) × (b ≡ true)
+both_hold true b both = (refl, both)
+both_hold false b both = not_so both
+
+no_due : (left : List ℕ) → is_none (first_of left) ≡ true → left ≡ []
+no_due [] none = refl
+no_due (x ∷ left) none = not_so none
+
+-- A tick whose pings are over.
+tick_over : {via : Addr → Addr} {place : Place} {line : Line} {w : View} {at : Pinging} {p : Pings} →
+    Walking via place line w (stage.Ticking at p) → is_ended at (left_in p) ≡ true → w.owing ≡ [] → Over via place line w (answer.Ticked p.expired p.outs)
+tick_over {via = via} {place = place} {line = line} {w = w} {at = at} {p = p} k ended none =
+    let halves = both_hold (is_pause at) (is_none (first_of (left_in p))) ended in
+    let last : left_in p ≡ [] = no_due (left_in p) halves.1 in
+    let t : Ticks via place line w p.expired p.due p.outs (left_in p) [] [] = paused at p halves.0 k.trail none in
+    let gone : t.gone ≡ p.due = sym (append-nil t.gone) ∙ sym (t.split ∙ ap (λ left. t.gone ++ left) last) in
+    let start : Step = step_of place line.at (act.Do command.Tick) (reply.Ticked p.expired p.due) t.taken in
+    record {
+      owes = none;
+      hold = k.hold ∙ pause_free at halves.0;
+      path = by_tick (record {
+        expired = p.expired;
+        due = p.due;
+        taken = t.taken;
+        os = t.all;
+        pings = t.pings;
+        is_tick = t.is_tick;
+        some = t.some;
+        fits = subst (λ due. PingsFit w.material due t.pings) gone t.fits;
+        steps_are = t.steps ∙ append-nil _ ∙ ap (λ due. start ∷ (releases place line.at t.all ++ pings_steps via place line.at due t.pings)) gone;
+        judgements_are = t.judged;
+        answer_is = ap (λ outs. answer.Ticked p.expired outs) (t.outs_are ∙ ap (λ due. pings_out due t.pings) gone);
+      });
+      drawn = t.draws ∙ append-nil _;
+      left = k.due ∙ last;
     }
 
 -- A line that owes a release is open.
@@ -217,6 +276,7 @@ open_owing (stage.Judged h packet) o (x ∷ os) e = tt
 open_owing (stage.Used h u a) o (x ∷ os) e = tt
 open_owing (stage.KeyGiven h u a) o (x ∷ os) e = tt
 open_owing (stage.PeerGiven h u a) o (x ∷ os) e = tt
+open_owing (stage.Ticking at p) o (x ∷ os) e = tt
 
 -- The first owed release was asked for: there is one, or none.
 some_owed : (q : Option Owed) (b : Bool) (s : Stage) (os : List Owed) → q ≡ first_owed os → b ≡ is_some q → b ≡ true → IsOpen s os
@@ -232,6 +292,10 @@ abbrev Finished : (Addr → Addr) → Place → Line → View → Result Answer 
 Finished via place line w (Ok a) = Over via place line w a
 Finished via place line w (Err s) = GoesOn via place line w s
 
+ended_by : {via : Addr → Addr} {place : Place} {line : Line} {w : View} (at : Pinging) (p : Pings) (b : Bool) → is_ended at (left_in p) ≡ b → Walking via place line w (stage.Ticking at p) → w.owing ≡ [] → Finished via place line w (if b then Ok (answer.Ticked p.expired p.outs) else Err (stage.Ticking at p))
+ended_by at p true is k none = tick_over k is none
+ended_by at p false is k none = (k, subst (λ os. IsOpen (stage.Ticking at p) os) (sym none) is)
+
 finished : {via : Addr → Addr} {place : Place} {line : Line} {w : View} (s : Stage) → Walking via place line w s → w.owing ≡ [] → Finished via place line w (ends s)
 finished stage.Fresh k none = (k, tt)
 finished (stage.Replied a) k none = replied_over k none
@@ -241,6 +305,7 @@ finished (stage.Judged h packet) k none = (k, tt)
 finished (stage.Used h u a) k none = (k, tt)
 finished (stage.KeyGiven h u a) k none = (k, tt)
 finished (stage.PeerGiven h u a) k none = held_over k none
+finished (stage.Ticking at p) k none = ended_by at p (is_ended at (left_in p)) refl k none
 
 pub finish_open : {via : Addr → Addr} {place : Place} {line : Line} {w : View} {s : Stage} (q : Option Owed) (b : Bool) → Walking via place line w s → q ≡ first_owed w.owing → b ≡ is_some q → b ≡ true → GoesOn via place line w s
 finish_open {w = w} {s = s} q b k is some there = (k, some_owed q b s w.owing is some there)
@@ -261,3 +326,9 @@ pub not_open : {s : Stage} {os : List Owed} {h : HoldView} {u : Use} {a : Answer
 not_open {s} {os} {h} {u} {a} same none is_open =
     let P : Stage → List Owed → Type 0 = λ x y. IsOpen x y in
     subst (λ y. P (stage.PeerGiven h u a) y) none (subst (λ x. P x os) same is_open)
+
+-- A tick that has a turn isn't at its end.
+pub tick_open : {s : Stage} {os : List Owed} {at : Pinging} {p : Pings} → s ≡ stage.Ticking at p → os ≡ [] → IsOpen s os → is_ended at (left_in p) ≡ false
+tick_open {s} {os} {at} {p} same none is_open =
+    let P : Stage → List Owed → Type 0 = λ x y. IsOpen x y in
+    subst (λ y. P (stage.Ticking at p) y) none (subst (λ x. P x os) same is_open)

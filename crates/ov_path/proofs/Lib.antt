@@ -2,6 +2,10 @@
 pub mod Beginning
 -- A line that is over: its events and its answer have a path.
 pub mod Ending
+-- One event more: where it leaves the line, which due peers are left, its columns, and what is owed.
+pub mod Seeing
+-- A tick goes on: each event of its pings leads from one stage to the next.
+pub mod Ticks
 -- A line that runs goes on: each event leads from one stage to the next.
 pub mod Going
 -- A tag that verifies opens its datagram.

@@ -26,7 +26,7 @@ use Rattle.ov_path.specs.declared.walk.Progress.{Progress}
 use Rattle.ov_path.specs.declared.walk.Progress.TheVariants.{More, Answered}
 use Rattle.ov_path.specs.Walks.{MadeBy, made, nothing}
 use Rattle.ov_path.specs.Plain.{shown_of, Kept, Sound, Joined, one_key, listed, taken_by, need, owes}
-use Rattle.ov_path.proofs.Going.{seen}
+use Rattle.ov_path.proofs.Seeing.{seen}
 
 -- ---- what is owed
 
@@ -41,6 +41,7 @@ joins_none (act.RxLook id key_id from) r = (refl, refl)
 joins_none (act.Sent peer inner outer ping) r = (refl, refl)
 joins_none (act.Settle peer from kind inner outer) r = (refl, refl)
 joins_none (act.Spend peer key) r = (refl, refl)
+joins_none (act.KeepLook peer) r = (refl, refl)
 joins_none (act.Released peer) r = (refl, refl)
 joins_none (act.KeyReleased key) r = (refl, refl)
 
@@ -53,6 +54,13 @@ nothing_joins a r o = record { joined = []; joins = joins_none a r; is = same_li
 
 pub first_joins : (c : Command) (x : ℕ) (xs : List ℕ) → Joined (act.Do c) (reply.Removed (x ∷ xs)) None (Some (owed.Peer x))
 first_joins c x xs = record {
+  joined = owed.Peer x ∷ [];
+  joins = record { some_keys = []; some_peers = x ∷ []; of_keys = none; of_peers = kept x xs [] (none_of xs); are = refl };
+  is = refl;
+}
+
+pub first_expires : (c : Command) (x : ℕ) (xs due : List ℕ) → Joined (act.Do c) (reply.Ticked (x ∷ xs) due) None (Some (owed.Peer x))
+first_expires c x xs due = record {
   joined = owed.Peer x ∷ [];
   joins = record { some_keys = []; some_peers = x ∷ []; of_keys = none; of_peers = kept x xs [] (none_of xs); are = refl };
   is = refl;
@@ -115,6 +123,7 @@ has_key m (act.RxLook id key_id from) h = (m, refl)
 has_key m (act.Sent peer inner outer ping) h = tt
 has_key m (act.Settle peer from kind inner outer) h = tt
 has_key m (act.Spend peer key) h = tt
+has_key m (act.KeepLook peer) h = (m, refl)
 has_key m (act.Released peer) h = tt
 has_key m (act.KeyReleased key) h = tt
 

@@ -1,5 +1,5 @@
 -- What a desk shows to the line that stands at it, and what each of its calls makes of that.
-use Rattle.std.specs.Prelude.{ℕ, ◌≡◌, ⊤, List, [], ◌∷◌, ◌++◌, Option, Some, None, nat_eq}
+use Rattle.std.specs.Prelude.{ℕ, ◌≡◌, ⊤, List, [], ◌∷◌, ◌++◌, Bool, true, false, Option, Some, None, nat_eq}
 use Rattle.std.specs.List.{IsDistinct}
 use Rattle.ov_base.specs.declared.address.Addr.{Addr}
 use Rattle.ov_model.specs.declared.hold.Owed.TheVariants as owed
@@ -8,6 +8,8 @@ use Rattle.ov_model.specs.declared.place.Place.{Place}
 use Rattle.ov_model.specs.declared.act.Act.{Act}
 use Rattle.ov_model.specs.declared.act.Act.TheVariants as act
 use Rattle.ov_model.specs.declared.act.Call.{Call}
+use Rattle.ov_model.specs.declared.command.Command.{Command}
+use Rattle.ov_model.specs.declared.command.Command.TheVariants as command
 use Rattle.ov_model.specs.declared.hold.Given.{Given}
 use Rattle.ov_model.specs.declared.hold.Given.TheVariants.{More, Last}
 use Rattle.ov_model.specs.declared.hold.Owed.{Owed}
@@ -15,12 +17,12 @@ use Rattle.ov_model.specs.declared.reply.HoldView.{HoldView}
 use Rattle.ov_model.specs.declared.reply.Reply.{Reply}
 use Rattle.ov_model.specs.declared.reply.Reply.TheVariants as reply
 use Rattle.ov_model.specs.Tables.{Material}
-use Rattle.ov_model.specs.Events.{Event, Stepped, GaveKey, GavePeer, Judged}
+use Rattle.ov_model.specs.Events.{Event, Stepped, GaveKey, GavePeer, Judged, judgements_in}
 use Rattle.ov_model.specs.Path.{SomeOwed, removed, spent_taken}
 use Rattle.ov_model.specs.declared.draw.Drawn.TheVariants as drawn
 use Rattle.ov_model.specs.declared.stand.Stand.{Stand}
 use Rattle.ov_model.specs.declared.stand.Stand.TheVariants as stand
-use Rattle.ov_model.specs.Next.{is_killed, stand_of}
+use Rattle.ov_model.specs.Next.{is_killed, stand_of, left_of}
 
 -- The hold that is out: none, one on a peer and its key, or one on the peer alone, whose key was given
 -- back.
@@ -106,9 +108,30 @@ IsUnused _ = ⊥
 abbrev pub IsFree : View → Type 0
 IsFree w = (w.hold ≡ NoHold) × (w.owing ≡ []) × (stand_of w.events ≡ stand.Fresh)
 
--- Which steps of the table a line may ask for: a command and a look-up where it holds and owes nothing,
--- the others of the peer and the key that it holds. Releases are asked for otherwise. A line begins with its
--- command or its look-up.
+-- A tick's line is between its step and its first ping, or between two pings.
+abbrev pub IsPause : Stand → Type 0
+IsPause stand.Replied = ⊤
+IsPause stand.Missed = ⊤
+IsPause (stand.PeerGiven h u) = ⊤
+IsPause _ = ⊥
+
+-- The first of some peers.
+abbrev pub first_of : List ℕ → Option ℕ
+first_of [] = None
+first_of (x ∷ xs) = Some x
+
+-- The line is a tick between two pings that holds and owes nothing, and this is the next peer that is due.
+-- Such a line has judged no packet id.
+pub record IsNextDue (w : View) (peer : ℕ) : Type 0 where
+  pub hold : w.hold ≡ NoHold
+  pub owing : w.owing ≡ []
+  pub pause : IsPause (stand_of w.events)
+  pub due : first_of (left_of w.events) ≡ Some peer
+  pub unjudged : judgements_in w.events ≡ []
+
+-- Which steps of the table a line may ask for: a command and a look-up where it holds and owes nothing, the
+-- look-up of a due peer between two pings, the others of the peer and the key that it holds. Releases are
+-- asked for otherwise. A line begins with its command or its look-up.
 abbrev pub MayCall : View → Act → Type 0
 MayCall w (act.Do c) = IsFree w
 MayCall w (act.TxLook a) = IsFree w
@@ -116,6 +139,7 @@ MayCall w (act.RxLook id key_id from) = IsFree w
 MayCall w (act.Sent peer inner outer ping) = HoldsPeer w.hold peer × IsDrawn (stand_of w.events)
 MayCall w (act.Settle peer from kind inner outer) = HoldsPeer w.hold peer × IsJudged (stand_of w.events)
 MayCall w (act.Spend peer key) = HoldsPeer w.hold peer × HoldsKey w.hold key × IsSpent (stand_of w.events)
+MayCall w (act.KeepLook peer) = IsNextDue w peer
 MayCall w (act.Released peer) = ⊥
 MayCall w (act.KeyReleased key) = ⊥
 
@@ -154,14 +178,32 @@ look_holds before _ = before
 abbrev pub held_after : Holding → Act → Reply → Holding
 held_after before (act.TxLook a) r = look_holds before r
 held_after before (act.RxLook id key_id from) r = look_holds before r
+held_after before (act.KeepLook peer) r = look_holds before r
 held_after before _ r = before
 
--- Which replies a step has. Those of the commands are the table's business.
+-- Whether a command is a tick.
+abbrev pub is_tick : Command → Bool
+is_tick command.Tick = true
+is_tick _ = false
+
+-- Whether a reply is that of a tick.
+abbrev pub is_ticked : Reply → Bool
+is_ticked (reply.Ticked expired due) = true
+is_ticked _ = false
+
+-- Which replies a step has. Those of the commands are the table's business, but that a tick is answered as
+-- one and no other command is.
 abbrev pub IsLookReply : Reply → Type 0
 IsLookReply (reply.Hold h) = ⊤
 IsLookReply reply.NoPeer = ⊤
 IsLookReply reply.NoKey = ⊤
 IsLookReply _ = ⊥
+
+-- A reply says whether a due peer takes its ping.
+abbrev pub IsKeepReply : Reply → Type 0
+IsKeepReply (reply.Hold h) = ⊤
+IsKeepReply reply.Skip = ⊤
+IsKeepReply _ = ⊥
 
 -- A reply says what becomes of a packet.
 abbrev pub IsSettledReply : Reply → Type 0
@@ -176,12 +218,13 @@ IsSpendReply _ = ⊥
 
 -- A reply is of the kind that the act has.
 abbrev pub IsReplyOf : Act → Reply → Type 0
-IsReplyOf (act.Do c) r = ⊤
+IsReplyOf (act.Do c) r = is_ticked r ≡ is_tick c
 IsReplyOf (act.TxLook a) r = IsLookReply r
 IsReplyOf (act.RxLook id key_id from) r = IsLookReply r
 IsReplyOf (act.Sent peer inner outer ping) r = r ≡ reply.Done
 IsReplyOf (act.Settle peer from kind inner outer) r = IsSettledReply r
 IsReplyOf (act.Spend peer key) r = IsSpendReply r
+IsReplyOf (act.KeepLook peer) r = IsKeepReply r
 IsReplyOf (act.Released peer) r = r ≡ reply.Released peer
 IsReplyOf (act.KeyReleased key) r = r ≡ reply.KeyReleased key
 
@@ -202,6 +245,7 @@ HoldHas material _ = ⊤
 abbrev pub HasMaterial : (ℕ → Option Material) → Act → Reply → Type 0
 HasMaterial material (act.TxLook a) r = HoldHas material r
 HasMaterial material (act.RxLook id key_id from) r = HoldHas material r
+HasMaterial material (act.KeepLook peer) r = HoldHas material r
 HasMaterial material _ r = ⊤
 
 -- The event of a step of the table.

@@ -24,8 +24,8 @@ pub enum Begun {
 }
 
 /// How a line begins at a desk: a netlink message with the command that the attribute checks make of it, a
-/// packet to be sent with the look-up of its next hop, a datagram with the look-up by its head, a lost
-/// transport with the removal of its peer.
+/// packet to be sent with the look-up of its next hop, a datagram with the look-up by its head, a tick and a
+/// down with their commands, a lost transport with the removal of its peer.
 pub fn begin_of<D: Desk>(desk: &D, deed: &Deed) -> Begun
     ensures look { LooksOnly deed.now result }
     ensures begins { begin_told result ≡ begins (D.view desk.now).via deed.now }
@@ -34,6 +34,8 @@ pub fn begin_of<D: Desk>(desk: &D, deed: &Deed) -> Begun
         Deed::Netlink(message) => begin_netlink(message.get()),
         Deed::Tx(packet) => begin_tx(desk, packet.as_slice()),
         Deed::Rx { from, datagram } => begin_rx(*from, datagram.as_slice()),
+        Deed::Tick => Begun::Command(Command::Tick),
+        Deed::Down => Begun::Command(Command::Down),
         Deed::Lost { id, reason } => Begun::Command(Command::Remove(*id, *reason)),
     }
 }

@@ -5,6 +5,7 @@ mod begun;
 mod calls;
 mod desk;
 mod open;
+mod ping;
 mod seal;
 mod stage;
 #[cfg(test)]
@@ -12,5 +13,5 @@ mod tests;
 mod walk;
 
 pub use desk::Desk;
-pub use stage::{Purpose, Stage};
+pub use stage::{Pinging, Pings, Purpose, Stage};
 pub use walk::{Progress, Walk};

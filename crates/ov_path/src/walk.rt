@@ -1,29 +1,29 @@
 // The turns of one line: each makes the next event of the line, and the last one answers it.
 
-ghost use Rattle.std.specs.Prelude.{◌≡◌, [], Some, OnOk, OnErr, IfOk};
+ghost use Rattle.std.specs.Prelude.{◌≡◌, [], false, Some, OnOk, OnErr, IfOk};
 ghost use Rattle.ov_base.specs.declared.address.Addr.{Addr};
 ghost use Rattle.ov_model.specs.declared.line.Line.{Line};
 ghost use Rattle.ov_model.specs.declared.act.Act.TheVariants as act;
 ghost use Rattle.ov_model.specs.declared.draw.Drawn.TheVariants as drawn;
 ghost use Rattle.ov_model.specs.Path.{begins, cause_of, first, settled_answer, IsLook};
-ghost use Rattle.ov_model.specs.Next.{is_killed, stand_of};
 ghost use Rattle.ov_model.specs.Sizes.{Fits};
 ghost use Rattle.ov_model.specs.declared.stand.Use.TheVariants as used;
 ghost use Rattle.ov_path.specs.declared.stage.Purpose.TheVariants as purpose;
 ghost use Rattle.ov_path.specs.declared.stage.Stage.TheVariants as stage;
 ghost use Rattle.ov_path.specs.declared.walk.Progress.TheVariants.{More};
-ghost use Rattle.ov_path.specs.Desks.{View, IsNew, SameLine, Grows, HoldsKey, IsUnused, first_owed};
+ghost use Rattle.ov_path.specs.Desks.{View, IsNew, SameLine, Grows, first_owed};
 ghost use Rattle.ov_path.specs.Parts.{refusal, PurposeFits};
+ghost use Rattle.ov_path.specs.Stages.{is_ended, left_in, replied_at};
 ghost use Rattle.ov_path.specs.Walks.{Walking, Stands, Turned, IsOpen, HopIsOwn, GoesOn, Made, MadeBy, Stays, Kept};
 
 use crate::begun::{Begun, begin_of};
-use crate::calls::{sent_of, settle_of};
+use crate::calls::{pair_of, sent_of, settle_of, was_killed};
 use crate::desk::Desk;
 use crate::open::open;
+use crate::ping::ping;
 use crate::seal::seal;
-use crate::stage::{Purpose, Stage};
+use crate::stage::{Pinging, Pings, Purpose, Stage};
 use ov_base::{Memory, Octets};
-use ov_keys::KeyPair;
 use ov_model::{
     Act, Answer, Call, Command, Deed, Drawn, DropCause, HoldView, Line, Owed, Place, Refusal,
     Reply, SealedOut, Settled, Use, Verdict,
@@ -61,9 +61,9 @@ impl Walk {
     }
 
     /// Makes the line's next turn: the one event that comes next, or none where the line is answered without
-    /// one. What is owed is released first. `alloc` is where the datagram that is sealed, or the packet
-    /// that is opened, takes its room. At `Memory`, which is free, neither the walk nor what the desk
-    /// shows of the line has changed. `via` is the next hop of an address as the line asks for it: only the
+    /// one. What is owed is released first. `alloc` is where a datagram that is sealed, a packet that is
+    /// opened, and the outcomes of a tick's pings take their room. At `Memory`, which is free, neither the
+    /// walk nor what the desk shows of the line has changed. `via` is the next hop of an address as the line asks for it: only the
     /// look-up of a packet and the settling of a datagram ask, each at its own turn.
     pub fn turn<D: Desk>(
         &mut self,
@@ -90,22 +90,9 @@ impl Walk {
         }
         // Where memory is wanting, the stage is put back.
         match mem::replace(&mut self.stage, Stage::Fresh) {
-            Stage::Fresh => self.begin(desk, line),
-            Stage::Looked(hold, purpose) => {
-                self.stage = Stage::Looked(hold, purpose);
-                self.stage = put_to_use(alloc, desk, self.place, line, hold, purpose)?;
-                Ok(Progress::More)
-            }
-            Stage::Drew(hold, Drawn::Id(id)) => {
-                self.stage = Stage::Drew(hold, Drawn::Id(id));
-                self.stage = send(alloc, desk, self.place, line, hold, id)?;
-                Ok(Progress::More)
-            }
-            Stage::Drew(hold, Drawn::Spent) => {
-                self.stage = Stage::Drew(hold, Drawn::Spent);
-                self.stage = spend(desk, self.place, line, hold)?;
-                Ok(Progress::More)
-            }
+            Stage::Fresh => self.begin(alloc, desk, line),
+            Stage::Looked(hold, purpose) => self.use_hold(alloc, desk, line, hold, purpose),
+            Stage::Drew(hold, drawn) => self.use_id(alloc, desk, line, hold, drawn),
             Stage::Judged(hold, packet) => self.settle(desk, line, hold, packet),
             Stage::Used(hold, made, answer) => {
                 self.key_back(desk, line, hold, made, answer);
@@ -114,6 +101,7 @@ impl Walk {
             Stage::KeyGiven(hold, made, answer) => {
                 Ok(self.peer_back(desk, line, hold, made, answer))
             }
+            Stage::Ticking(at, pings) => self.tick(alloc, desk, line, at, pings),
             Stage::Replied(_) => unreachable!(),
             Stage::PeerGiven(_, _, _) => unreachable!(),
         }
@@ -152,7 +140,12 @@ impl Walk {
     }
 
     /// The line begins, or is answered at once.
-    fn begin<D: Desk>(&mut self, desk: &mut D, line: &Line) -> Result<Progress, Memory>
+    fn begin<D: Desk>(
+        &mut self,
+        alloc: Global,
+        desk: &mut D,
+        line: &Line,
+    ) -> Result<Progress, Memory>
         ghost via: { Addr → Addr }
         requires at { Walking via self.old.place line.now (D.view desk.old) stage.Fresh }
         requires hop { HopIsOwn via stage.Fresh line.now.deed (D.view desk.old) }
@@ -164,7 +157,7 @@ impl Walk {
     {
         match begin_of(desk, &line.deed) {
             Begun::AtOnce(answer) => Ok(Progress::Answered(answer)),
-            Begun::Command(command) => self.command(desk, line, command),
+            Begun::Command(command) => self.command(alloc, desk, line, command),
             Begun::Look(act, purpose) => self.look(desk, line, act, purpose),
         }
     }
@@ -172,6 +165,7 @@ impl Walk {
     /// A command is made.
     fn command<D: Desk>(
         &mut self,
+        alloc: Global,
         desk: &mut D,
         line: &Line,
         command: Command,
@@ -190,7 +184,7 @@ impl Walk {
             act: Act::Do(command),
         };
         let reply = desk.table(self.place, &call)?;
-        self.stage = Stage::Replied(Answer::Reply(reply));
+        self.stage = replied(alloc, reply);
         Ok(self.finish(desk, line))
     }
 
@@ -223,6 +217,60 @@ impl Walk {
             Reply::NoKey => Ok(Progress::Answered(Answer::Dropped(DropCause::NoKey))),
             _ => unreachable!(),
         }
+    }
+
+    /// What is held is put to use.
+    fn use_hold<D: Desk>(
+        &mut self,
+        alloc: Global,
+        desk: &mut D,
+        line: &Line,
+        hold: HoldView,
+        purpose: Purpose,
+    ) -> Result<Progress, Memory>
+        ghost via: { Addr → Addr }
+        requires at { Walking via self.old.place line.now (D.view desk.old)
+            (stage.Looked hold purpose) }
+        requires fits { Fits line.now.deed }
+        ensures then { OnOk result
+            (GoesOn via self.new.place line.now (D.view desk.new) self.new.stage) }
+        ensures made { OnOk result
+            (Made D.view D.does via self.old.place line.now desk.old desk.new) }
+        ensures more { IfOk result (λ r. r ≡ More) }
+        ensures err { OnErr result (SameLine (D.view desk.old) (D.view desk.new)) }
+        ensures kept { OnErr result (self.new ≡ record self.old { stage = stage.Looked hold purpose }) }
+        ensures stays { Stays (D.view desk.old) (D.view desk.new) self.old self.new }
+    {
+        self.stage = Stage::Looked(hold, purpose);
+        self.stage = put_to_use(alloc, desk, self.place, line, hold, purpose)?;
+        Ok(Progress::More)
+    }
+
+    /// What was drawn is used.
+    fn use_id<D: Desk>(
+        &mut self,
+        alloc: Global,
+        desk: &mut D,
+        line: &Line,
+        hold: HoldView,
+        drawn: Drawn,
+    ) -> Result<Progress, Memory>
+        ghost via: { Addr → Addr }
+        requires at { Walking via self.old.place line.now (D.view desk.old)
+            (stage.Drew hold drawn) }
+        requires fits { Fits line.now.deed }
+        ensures then { OnOk result
+            (GoesOn via self.new.place line.now (D.view desk.new) self.new.stage) }
+        ensures made { OnOk result
+            (Made D.view D.does via self.old.place line.now desk.old desk.new) }
+        ensures more { IfOk result (λ r. r ≡ More) }
+        ensures err { OnErr result (SameLine (D.view desk.old) (D.view desk.new)) }
+        ensures kept { OnErr result (self.new ≡ record self.old { stage = stage.Drew hold drawn }) }
+        ensures stays { Stays (D.view desk.old) (D.view desk.new) self.old self.new }
+    {
+        self.stage = Stage::Drew(hold, drawn);
+        self.stage = use_draw(alloc, desk, self.place, line, hold, drawn)?;
+        Ok(Progress::More)
     }
 
     /// A fresh packet is settled: what becomes of it is the answer.
@@ -259,6 +307,41 @@ impl Walk {
         let answer = settled_as(settled, &hold, packet);
         self.stage = Stage::Used(hold, Use::Settled(settled), answer);
         Ok(Progress::More)
+    }
+
+    /// A tick goes on. The line may be over then.
+    fn tick<D: Desk>(
+        &mut self,
+        alloc: Global,
+        desk: &mut D,
+        line: &Line,
+        at: Pinging,
+        mut pings: Pings,
+    ) -> Result<Progress, Memory>
+        ghost via: { Addr → Addr }
+        requires at { Walking via self.old.place line.now (D.view desk.old)
+            (stage.Ticking at pings) }
+        requires none { (D.view desk.old).owing ≡ [] }
+        requires open { is_ended at (left_in pings) ≡ false }
+        ensures then { IfOk result (λ r. Turned via line.now (D.view desk.new) self.new r) }
+        ensures made { IfOk result (λ r.
+            MadeBy D.view D.does via self.old.place line.now r desk.old desk.new) }
+        ensures err { OnErr result (SameLine (D.view desk.old) (D.view desk.new)) }
+        ensures kept { OnErr result (self.new ≡ record self.old {
+          stage = stage.Ticking at pings;
+        }) }
+        ensures stays { Stays (D.view desk.old) (D.view desk.new) self.old self.new }
+    {
+        match ping(alloc, desk, self.place, line, at, &mut pings) {
+            Ok(now) => {
+                self.stage = Stage::Ticking(now, pings);
+                Ok(self.finish(desk, line))
+            }
+            Err(memory) => {
+                self.stage = Stage::Ticking(at, pings);
+                Err(memory)
+            }
+        }
     }
 
     /// The hold on the key is given back, after it was used.
@@ -304,6 +387,19 @@ impl Walk {
     }
 }
 
+/// Where a command's reply leaves its line: a tick goes on with its pings, and every other command is answered
+/// with its reply.
+fn replied(alloc: Global, reply: Reply) -> Stage
+    ensures { result ≡ replied_at reply }
+{
+    match reply {
+        Reply::Ticked { expired, due } => {
+            Stage::Ticking(Pinging::Ticked, Pings::new(alloc, expired, due))
+        }
+        reply => Stage::Replied(Answer::Reply(reply)),
+    }
+}
+
 /// What is held is put to use: a counter is asked, or a datagram opened.
 fn put_to_use<D: Desk>(
     alloc: Global,
@@ -330,6 +426,29 @@ fn put_to_use<D: Desk>(
     }
 }
 
+/// What was drawn is used: the packet is sent, or the key is spent.
+fn use_draw<D: Desk>(
+    alloc: Global,
+    desk: &mut D,
+    place: Place,
+    line: &Line,
+    hold: HoldView,
+    drawn: Drawn,
+) -> Result<Stage, Memory>
+    ghost via: { Addr → Addr }
+    requires at { Walking via place line.now (D.view desk.old) (stage.Drew hold drawn) }
+    requires fits { Fits line.now.deed }
+    ensures then { IfOk result (λ s. GoesOn via place line.now (D.view desk.new) s) }
+    ensures made { OnOk result (Made D.view D.does via place line.now desk.old desk.new) }
+    ensures err { OnErr result (SameLine (D.view desk.old) (D.view desk.new)) }
+    ensures grows { Grows (D.view desk.old).material (D.view desk.new).material }
+{
+    match drawn {
+        Drawn::Id(id) => send(alloc, desk, place, line, hold, id),
+        Drawn::Spent => spend(desk, place, line, hold),
+    }
+}
+
 /// The packet is sealed under the packet id that was drawn, and counted as sent.
 fn send<D: Desk>(
     alloc: Global,
@@ -351,7 +470,7 @@ fn send<D: Desk>(
         unreachable!();
     };
     let datagram = seal(alloc, &hold, pair_of(desk, hold.key), id, packet.as_slice())?;
-    let act = sent_of(&hold, packet.as_slice());
+    let act = sent_of(&hold, false, packet.as_slice());
     desk.table(place, &Call { at: line.at, act })?;
     let answer = Answer::Sealed(SealedOut {
         to: hold.to,
@@ -441,26 +560,14 @@ fn settled<D: Desk>(
     ensures err { OnErr result (SameLine (D.view desk.old) (D.view desk.new)) }
     ensures grows { Grows (D.view desk.old).material (D.view desk.new).material }
 {
-    let Deed::Rx { datagram, .. } = &line.deed else {
+    let Deed::Rx { from, datagram } = &line.deed else {
         unreachable!();
     };
-    let act = settle_of(desk, hold, packet, datagram.as_slice());
+    let act = settle_of(desk, hold, *from, packet, datagram.as_slice());
     let Reply::Settled(settled) = desk.table(place, &Call { at: line.at, act })? else {
         unreachable!();
     };
     Ok(settled)
-}
-
-/// The two directions of a key that is held.
-fn pair_of<D: Desk>(desk: &D, key: u32) -> &KeyPair
-    requires held { HoldsKey (D.view desk.now).hold key }
-    requires unused { IsUnused (stand_of (D.view desk.now).events) }
-    ensures has { (D.view desk.now).material key ≡ Some result.now }
-{
-    match desk.pair(key) {
-        Some(pair) => pair,
-        None => unreachable!(),
-    }
 }
 
 /// Why a packet id isn't taken, where it isn't.
@@ -485,16 +592,6 @@ fn dropped_as(refusal: Refusal) -> DropCause
         Refusal::Old => DropCause::Old,
         Refusal::Below => DropCause::Below,
         Refusal::Again => DropCause::Again,
-    }
-}
-
-/// Whether a spent key was taken out of its slot.
-fn was_killed(reply: &Reply) -> bool
-    ensures { result ≡ is_killed reply.now }
-{
-    match reply {
-        Reply::Killed => true,
-        _ => false,
     }
 }
 

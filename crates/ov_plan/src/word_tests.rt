@@ -1,7 +1,7 @@
 use crate::words::{Mode, PlanStop, RunPlan, plan};
 use ov_base::Memory;
 use std::alloc::Global;
-use std::test::Fail;
+use std::process::Abort;
 
 /// What is planned by these words.
 fn planned(alloc: Global, texts: &[&str]) -> Result<Result<RunPlan, PlanStop>, Memory> {
@@ -13,96 +13,156 @@ fn planned(alloc: Global, texts: &[&str]) -> Result<Result<RunPlan, PlanStop>, M
 }
 
 /// Whether these words are no plan's.
-fn is_usage(alloc: Global, texts: &[&str]) -> Result<bool, Memory> {
-    let answer = planned(alloc, texts)?;
-    Ok(matches!(&answer, Err(PlanStop::Usage)))
+fn usage(rt: &impl Abort, alloc: Global, texts: &[&str]) -> bool {
+    let Ok(answer) = planned(alloc, texts) else {
+        panic!(rt; "no memory");
+    };
+    matches!(&answer, Err(PlanStop::Usage))
 }
 
-/// The number that the plan of these words has for an option, and none where they have no plan.
-fn number(alloc: Global, texts: &[&str], option: &str) -> Result<Option<u32>, Memory> {
-    let Ok(plan) = planned(alloc, texts)? else {
-        return Ok(None);
+/// These words are no plan's.
+fn is_usage(rt: &impl Abort, alloc: Global, texts: &[&str]) {
+    assert!(rt; usage(rt, alloc, texts), "{texts:?}");
+}
+
+/// The plan of these words.
+fn plan_of(rt: &impl Abort, alloc: Global, texts: &[&str]) -> RunPlan {
+    let Ok(Ok(plan)) = planned(alloc, texts) else {
+        panic!(rt; "no plan: {texts:?}");
     };
-    Ok(match option {
-        "--lanes" => Some(plan.lanes),
-        "--head" => Some(plan.head),
-        "--first-id" => Some(plan.first_id),
-        "--seed" => Some(plan.seed),
-        "--count" => Some(plan.count),
-        "--turns" => Some(plan.turns),
-        "--port" => Some(u32::from(plan.port)),
-        _ => None,
+    plan
+}
+
+/// The number that a plan has for an option.
+fn number(plan: &RunPlan, option: &str) -> Option<u32> {
+    Some(match option {
+        "--lanes" => plan.lanes,
+        "--head" => plan.head,
+        "--first-id" => plan.first_id,
+        "--seed" => plan.seed,
+        "--count" => plan.count,
+        "--turns" => plan.turns,
+        "--port" => u32::from(plan.port),
+        _ => return None,
     })
 }
 
-#[test]
-fn each_number_has_its_range_in_each_mode(rt: HostRuntime) -> Result<(), Fail> {
-    let alloc = rt.alloc();
-    // The option; the highest number below its range, its lowest, its highest, the lowest above; its default.
-    for (option, below, low, lowest, high, highest, above, default) in [
-        ("--lanes", "0", "1", 1, "64", 64, "65", 4),
-        ("--head", "-1", "0", 0, "262144", 262_144, "262145", 0),
-        (
-            "--first-id",
-            "0",
-            "1",
-            1,
-            "4294967295",
-            4_294_967_295,
-            "4294967296",
-            1,
-        ),
-        (
-            "--seed",
-            "-1",
-            "0",
-            0,
-            "4294967295",
-            4_294_967_295,
-            "4294967296",
-            1,
-        ),
-        ("--count", "0", "1", 1, "100000", 100_000, "100001", 1000),
-        (
-            "--turns",
-            "0",
-            "1",
-            1,
-            "4294967295",
-            4_294_967_295,
-            "4294967296",
-            1000,
-        ),
-        ("--port", "0", "1", 1, "65344", 65_344, "65345", 1194),
-    ] {
-        for mode in ["trace", "steps"] {
-            assert_eq!(rt; number(alloc, &[mode], option)?, Some(default), "{option}");
-            assert_eq!(rt;
-                number(alloc, &[mode, option, low], option)?,
-                Some(lowest),
-                "{option}"
-            );
-            assert_eq!(rt;
-                number(alloc, &[mode, option, high], option)?,
-                Some(highest),
-                "{option}"
-            );
-            assert!(rt; is_usage(alloc, &[mode, option, below])?, "{option}");
-            assert!(rt; is_usage(alloc, &[mode, option, above])?, "{option}");
-        }
+/// The plan of these words has this number for an option.
+fn has_number(rt: &impl Abort, alloc: Global, texts: &[&str], option: &str, wanted: u32) {
+    let plan = plan_of(rt, alloc, texts);
+    assert_eq!(rt; number(&plan, option), Some(wanted), "{texts:?}");
+}
+
+/// The range of an option's number.
+#[derive(Clone, Copy)]
+struct Range {
+    option: &'static str,
+    default: u32,
+    // The ends of the range, as texts and as numbers.
+    lowest: (&'static str, u32),
+    highest: (&'static str, u32),
+    // The highest number below the range and the lowest above it.
+    below: &'static str,
+    above: &'static str,
+}
+
+impl Range {
+    /// The ends of the range are taken in a mode, and what lies beyond is not.
+    fn holds_in(&self, rt: &impl Abort, alloc: Global, mode: &'static str) {
+        let option = self.option;
+        has_number(rt, alloc, &[mode], option, self.default);
+        let (low, lowest) = self.lowest;
+        has_number(rt, alloc, &[mode, option, low], option, lowest);
+        let (high, highest) = self.highest;
+        has_number(rt, alloc, &[mode, option, high], option, highest);
+        is_usage(rt, alloc, &[mode, option, self.below]);
+        is_usage(rt, alloc, &[mode, option, self.above]);
+    }
+
+    /// The range holds in each mode, and a text that is no number is not taken.
+    fn holds(&self, rt: &impl Abort, alloc: Global) {
+        self.holds_in(rt, alloc, "trace");
+        self.holds_in(rt, alloc, "steps");
         for text in ["", "x", "1.5", "0x10", " 1", "1 "] {
-            assert!(rt;
-                is_usage(alloc, &["trace", option, text])?,
-                "{option} {text}"
-            );
+            is_usage(rt, alloc, &["trace", self.option, text]);
         }
     }
-    Ok(())
+}
+
+/// An option whose number goes to the greatest of 32 bits.
+fn to_most(
+    option: &'static str,
+    default: u32,
+    below: &'static str,
+    lowest: (&'static str, u32),
+) -> Range {
+    Range {
+        option,
+        default,
+        lowest,
+        highest: ("4294967295", 4_294_967_295),
+        below,
+        above: "4294967296",
+    }
 }
 
 #[test]
-fn an_option_has_one_value_and_stands_once(rt: HostRuntime) -> Result<(), Fail> {
-    let alloc = rt.alloc();
+fn each_number_up_to_32_bits_has_its_range_in_each_mode(rt: HostRuntime) {
+    to_most("--first-id", 1, "0", ("1", 1)).holds(&rt, rt.alloc());
+    to_most("--seed", 1, "-1", ("0", 0)).holds(&rt, rt.alloc());
+    to_most("--turns", 1000, "0", ("1", 1)).holds(&rt, rt.alloc());
+}
+
+#[test]
+fn each_smaller_number_has_its_range_in_each_mode(rt: HostRuntime) {
+    let lanes = Range {
+        option: "--lanes",
+        default: 4,
+        lowest: ("1", 1),
+        highest: ("64", 64),
+        below: "0",
+        above: "65",
+    };
+    lanes.holds(&rt, rt.alloc());
+    let head = Range {
+        option: "--head",
+        default: 0,
+        lowest: ("0", 0),
+        highest: ("262144", 262_144),
+        below: "-1",
+        above: "262145",
+    };
+    head.holds(&rt, rt.alloc());
+    let count = Range {
+        option: "--count",
+        default: 1000,
+        lowest: ("1", 1),
+        highest: ("100000", 100_000),
+        below: "0",
+        above: "100001",
+    };
+    count.holds(&rt, rt.alloc());
+    let port = Range {
+        option: "--port",
+        default: 1194,
+        lowest: ("1", 1),
+        highest: ("65344", 65_344),
+        below: "0",
+        above: "65345",
+    };
+    port.holds(&rt, rt.alloc());
+}
+
+/// An option has one value and stands once.
+fn stands_once(rt: &impl Abort, alloc: Global, option: &str) {
+    assert!(rt; !usage(rt, alloc, &["trace", option, "1"]), "{option}");
+    is_usage(rt, alloc, &["trace", option]);
+    is_usage(rt, alloc, &["trace", option, "1", option, "1"]);
+    is_usage(rt, alloc, &["trace", option, "1", "2"]);
+}
+
+#[test]
+fn an_option_has_one_value_and_stands_once(rt: HostRuntime) {
     for option in [
         "--lanes",
         "--head",
@@ -113,21 +173,14 @@ fn an_option_has_one_value_and_stands_once(rt: HostRuntime) -> Result<(), Fail> 
         "--turns",
         "--port",
     ] {
-        assert!(rt; !is_usage(alloc, &["trace", option, "1"])?, "{option}");
-        assert!(rt; is_usage(alloc, &["trace", option])?, "{option}");
-        assert!(rt;
-            is_usage(alloc, &["trace", option, "1", option, "1"])?,
-            "{option}"
-        );
-        assert!(rt; is_usage(alloc, &["trace", option, "1", "2"])?, "{option}");
+        stands_once(&rt, rt.alloc(), option);
     }
-    Ok(())
 }
 
 #[test]
-fn other_words_are_no_plan(rt: HostRuntime) -> Result<(), Fail> {
-    let alloc = rt.alloc();
-    assert!(rt; is_usage(alloc, &[])?);
+fn another_first_word_is_no_mode(rt: HostRuntime) {
+    is_usage(&rt, rt.alloc(), &[]);
+    is_usage(&rt, rt.alloc(), &["--first-id", "1"]);
     for mode in [
         "",
         "run",
@@ -142,8 +195,12 @@ fn other_words_are_no_plan(rt: HostRuntime) -> Result<(), Fail> {
         "-h",
         "--version",
     ] {
-        assert!(rt; is_usage(alloc, &[mode])?, "{mode}");
+        is_usage(&rt, rt.alloc(), &[mode]);
     }
+}
+
+#[test]
+fn another_word_behind_the_mode_is_no_option(rt: HostRuntime) {
     for word in [
         "trace",
         "steps",
@@ -155,54 +212,51 @@ fn other_words_are_no_plan(rt: HostRuntime) -> Result<(), Fail> {
         "-V",
         "-l",
     ] {
-        assert!(rt; is_usage(alloc, &["trace", word])?, "{word}");
-        assert!(rt; is_usage(alloc, &["trace", word, "1"])?, "{word}");
+        is_usage(&rt, rt.alloc(), &["trace", word]);
+        is_usage(&rt, rt.alloc(), &["trace", word, "1"]);
     }
-    assert!(rt; is_usage(alloc, &["--first-id", "1"])?);
-    Ok(())
+}
+
+/// The plan of these words is one of turns by these lanes.
+fn turns_by(rt: &impl Abort, alloc: Global, texts: &[&str], lanes: &[u32]) {
+    let plan = plan_of(rt, alloc, texts);
+    assert_eq!(rt; plan.mode, Mode::Steps);
+    assert_eq!(rt; plan.schedule.as_slice(), lanes);
 }
 
 #[test]
-fn a_schedule_has_the_lanes_of_its_text(rt: HostRuntime) -> Result<(), Fail> {
-    let alloc = rt.alloc();
-    let Ok(trace) = planned(alloc, &["trace"])? else {
-        panic!(rt; "a plan");
-    };
+fn a_schedule_has_the_lanes_of_its_text(rt: HostRuntime) {
+    let trace = plan_of(&rt, rt.alloc(), &["trace"]);
     assert_eq!(rt; trace.mode, Mode::Trace);
     assert!(rt; trace.schedule.as_slice().is_empty());
-    for words in [
-        ["steps", "--schedule", "0,9,10,63"].as_slice(),
-        ["--schedule", "0,9,10,63", "steps"].as_slice(),
-        ["--schedule=0,9,10,63", "--", "steps"].as_slice(),
-    ] {
-        let Ok(steps) = planned(alloc, words)? else {
-            panic!(rt; "a plan");
-        };
-        assert_eq!(rt; steps.mode, Mode::Steps);
-        assert_eq!(rt; steps.schedule.as_slice(), [0, 9, 10, 63].as_slice());
-    }
-    for words in [
-        ["steps"].as_slice(),
-        ["steps", "--schedule", ""].as_slice(),
-        ["steps", "--schedule="].as_slice(),
-    ] {
-        let Ok(steps) = planned(alloc, words)? else {
-            panic!(rt; "a plan");
-        };
-        assert!(rt; steps.schedule.as_slice().is_empty());
-    }
-    Ok(())
+    let lanes = [0, 9, 10, 63];
+    turns_by(
+        &rt,
+        rt.alloc(),
+        &["steps", "--schedule", "0,9,10,63"],
+        &lanes,
+    );
+    turns_by(
+        &rt,
+        rt.alloc(),
+        &["--schedule", "0,9,10,63", "steps"],
+        &lanes,
+    );
+    turns_by(
+        &rt,
+        rt.alloc(),
+        &["--schedule=0,9,10,63", "--", "steps"],
+        &lanes,
+    );
+    turns_by(&rt, rt.alloc(), &["steps"], &[]);
+    turns_by(&rt, rt.alloc(), &["steps", "--schedule", ""], &[]);
+    turns_by(&rt, rt.alloc(), &["steps", "--schedule="], &[]);
 }
 
 #[test]
-fn other_texts_are_no_schedule(rt: HostRuntime) -> Result<(), Fail> {
+fn other_texts_are_no_schedule(rt: HostRuntime) {
     for text in [",", "0,", ",0", "0,,1", "64", "00", "01", "+1", "0, 1", "a"] {
-        for mode in ["trace", "steps"] {
-            assert!(rt;
-                is_usage(rt.alloc(), &[mode, "--schedule", text])?,
-                "{text}"
-            );
-        }
+        is_usage(&rt, rt.alloc(), &["trace", "--schedule", text]);
+        is_usage(&rt, rt.alloc(), &["steps", "--schedule", text]);
     }
-    Ok(())
 }

@@ -1,4 +1,5 @@
 pub mod Marks
 pub mod Window
 pub mod History
-pub mod Shard
+pub mod Course
+pub mod Desk

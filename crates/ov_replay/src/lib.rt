@@ -1,7 +1,11 @@
 //! Which packet ids of a key may still come, each once.
 #![tactic(auto)]
 
+pub mod course;
+pub mod desk;
+mod locked;
 mod marks;
+mod parts;
 #[cfg(test)]
 mod plain;
 pub mod shard;
@@ -9,5 +13,7 @@ pub mod shard;
 mod tests;
 pub mod window;
 
+pub use course::Course;
+pub use desk::{DeskSeat, ReplayDesk};
 pub use shard::Shard;
 pub use window::Window;

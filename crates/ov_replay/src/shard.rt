@@ -1,38 +1,32 @@
 //! One of the eight shards of the replay windows: those of the keys with one remainder modulo 8,
-//! and all steps that these keys made, in their order. Each key's window stands for its steps.
+//! and all steps that these keys made, in their order.
 
-ghost use Rattle.std.specs.Prelude.{◌≡◌, ◌%◌, ◌<◌, [], ◌∷◌, ◌++◌, None, IfOk, IsOk, OnOk, OnErr};
-ghost use Rattle.std.specs.BTreeMap.{get, IsUnchanged};
-ghost use Rattle.std.specs.Ordering.{nat_cmp};
+ghost use Rattle.std.specs.Prelude.{◌≡◌, ◌%◌, ◌<◌, [], ◌∷◌, ◌++◌, IfOk, OnOk, OnErr};
 ghost use Rattle.ov_model.specs.Limits.{shard_count};
 ghost use Rattle.ov_model.specs.Replay.{ShardJudges, judged};
-ghost use Rattle.ov_replay.specs.Shard.{Judges, WindowJudges};
 
-use crate::window::Window;
+use crate::course::Course;
 use ov_base::{ListOf, Memory};
 use ov_model::{Place, ReplayEntry, Verdict};
 use std::alloc::Global;
-use std::collections::BTreeMap;
 use std::marker::Model;
 
 /// The windows and the history of one shard.
 #[derive(Debug, Drop)]
 pub struct Shard {
     number: u32,
-    windows: BTreeMap<u32, Window>,
-    entries: Vec<ReplayEntry>,
+    course: Course,
 }
 
 impl Model for Shard {
     ghost use Rattle.ov_replay.specs.History.{History};
+    ghost use Rattle.ov_model.specs.Replay.{ShardJudges};
 
     ghost Value = { History };
 
-    ghost use Rattle.ov_replay.specs.Shard.{IsShard};
+    ghost view = { λ s. record { number = s.number; entries = s.course } };
 
-    ghost view = { λ s. record { number = s.number; entries = s.entries.items } };
-
-    ghost invariant = { λ s. IsShard s.number s.windows s.entries.items };
+    ghost invariant = { λ s. ShardJudges s.number s.course };
 }
 
 impl Shard {
@@ -44,8 +38,7 @@ impl Shard {
     {
         Shard {
             number,
-            windows: BTreeMap::new(alloc),
-            entries: Vec::new(alloc),
+            course: Course::new(alloc),
         }
     }
 
@@ -64,17 +57,7 @@ impl Shard {
         // Want of memory changes nothing, neither the window nor its moment.
         ensures err { OnErr result (self.new ≡ self.old) }
     {
-        self.entries.reserve(1)?;
-        let (verdict, moment) = judge(&mut self.windows, key, id, at)?;
-        self.entries.push_reserved(ReplayEntry {
-            place,
-            key,
-            id,
-            at,
-            moment,
-            verdict,
-        });
-        Ok(verdict)
+        self.course.step(place, key, id, at)
     }
 
     /// Closes the shard and moves its history out: the entries of all its steps, in their order.
@@ -82,55 +65,7 @@ impl Shard {
         ensures entries { result ≡ self.entries }
         ensures judged { ShardJudges self.number result }
     {
-        let Shard {
-            number: _,
-            windows: _,
-            entries,
-        } = self;
-        ListOf::of_vec(entries)
+        let Shard { number: _, course } = self;
+        course.finish()
     }
-}
-
-/// Makes a step of the key `key` on the key's window, where it lies among the windows: a key without
-/// one gets one. It gives the verdict and the window's moment. After Memory the windows are as they
-/// were.
-fn judge(
-    windows: &mut BTreeMap<u32, Window>,
-    key: u32,
-    id: u32,
-    at: u32,
-) -> Result<(Verdict, u32), Memory>
-    ensures ok { IfOk result (λ made. Judges windows.old windows.new key id at made.0 made.1) }
-    ensures err { OnErr result (IsUnchanged windows.old windows.new) }
-{
-    match windows.get_mut(&key) {
-        Some(window) => step_on(window, id, at),
-        None => judge_first(windows, key, id, at),
-    }
-}
-
-/// Makes the first step of the key `key`, on a new window.
-fn judge_first(
-    windows: &mut BTreeMap<u32, Window>,
-    key: u32,
-    id: u32,
-    at: u32,
-) -> Result<(Verdict, u32), Memory>
-    requires { get nat_cmp windows.old key ≡ None }
-    ensures ok { IfOk result (λ made. Judges windows.old windows.new key id at made.0 made.1) }
-    ensures err { OnErr result (IsUnchanged windows.old windows.new) }
-{
-    let mut window = Window::new();
-    let made = step_on(&mut window, id, at)?;
-    windows.insert(key, window)?;
-    Ok(made)
-}
-
-/// Makes a step on a window. It gives the verdict and the window's moment.
-fn step_on(window: &mut Window, id: u32, at: u32) -> Result<(Verdict, u32), Memory>
-    ensures ok { IfOk result (λ made. WindowJudges window.old window.new id at made.0 made.1) }
-    ensures memory { IsOk result }
-{
-    let verdict = window.step(id, at)?;
-    Ok((verdict, window.moment()))
 }

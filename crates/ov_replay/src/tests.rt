@@ -1,7 +1,7 @@
 //! What no clause says: that the definitions are the rule that was meant, and that a call succeeds.
 
 use crate::plain::PlainWindow;
-use crate::{Shard, Window};
+use crate::{DeskSeat, ReplayDesk, Shard, Window};
 use ov_model::Verdict::{Accept, Again, Below, Old, Zero};
 use ov_model::{Place, ReplayEntry, Verdict};
 use std::alloc::Global;
@@ -307,5 +307,28 @@ fn each_key_of_a_shard_has_a_window_of_its_own(rt: HostRuntime) -> Result<(), Fa
         },
     ];
     assert_eq!(rt; history.as_slice(), entries.as_slice());
+    Ok(())
+}
+
+#[test]
+fn two_seats_of_a_desk_share_the_window_of_a_key(rt: HostRuntime) -> Result<(), Fail> {
+    let none = DeskSeat::none(rt.alloc())?;
+    let (desk, seat) = ReplayDesk::new(rt.alloc())?;
+    let (mut one, mut two) = desk.split(seat, none);
+    let first = Place { lane: 0, line: 0 };
+    let second = Place { lane: 1, line: 0 };
+    let third = Place { lane: 1, line: 1 };
+    let accepted = desk.step(&rt, &mut one, first, 3, 7, 10);
+    let again = desk.step(&rt, &mut two, second, 3, 7, 10);
+    let other = desk.step(&rt, &mut two, third, 12, 7, 10);
+    let seat = desk.join(one, two);
+    let shards = desk.close(seat).into_vec();
+    assert_eq!(rt; accepted, Ok(Accept));
+    assert_eq!(rt; again, Ok(Again));
+    assert_eq!(rt; other, Ok(Accept));
+    assert_eq!(rt; shards.len(), 8);
+    assert_eq!(rt; shards[3].len(), 2);
+    assert_eq!(rt; shards[3].as_slice()[1].place, second);
+    assert_eq!(rt; shards[4].len(), 1);
     Ok(())
 }

@@ -1,4 +1,4 @@
--- The texts of a report have no fractions, so the printer's text of each is exact.
+-- The texts of notes have no fractions, so the printer's text of each is exact.
 pub mod NoFloat
 -- The test whether keys differ tells exactly whether they do.
 pub mod Distinct
@@ -12,9 +12,3 @@ pub mod Counting
 pub mod Sets
 -- The texts of a report's lines as the pieces that they are put together of.
 pub mod Lines
--- What peer-get shows of a peer, as the pieces that it is put together of.
-pub mod Viewed
--- Digits and addresses have no character that a JSON text escapes.
-pub mod Plain
--- The digits of bytes, sixteen bytes at a time.
-pub mod Woven

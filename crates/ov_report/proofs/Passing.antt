@@ -9,7 +9,7 @@ use Rattle.ov_base.specs.Outside.{Rose}
 use Rattle.ov_base.specs.Loops.{AppendsPart}
 use Rattle.serde_json.specs.Data.{Data}
 use Rattle.serde_json.specs.Written.{compact_text}
-use Rattle.ov_report.specs.Print.{line_text}
+use Rattle.ov_text.specs.Pieces.{line_text}
 use Rattle.ov_report.specs.Printing.{Passed, Stopped, full_page}
 use Rattle.ov_report.specs.declared.page.PrintStop.{PrintStop}
 use Rattle.ov_report.specs.declared.page.PrintStop.TheVariants as stop

@@ -12,6 +12,8 @@ use Rattle.ov_model.specs.declared.reply.Reply.TheVariants as reply
 use Rattle.ov_model.specs.declared.command.KeyDir.{KeyDir}
 use Rattle.ov_model.specs.declared.answer.Answer.{Answer}
 use Rattle.ov_model.specs.declared.answer.Answer.TheVariants as answer
+use Rattle.ov_model.specs.declared.answer.PingOutcome.{PingOutcome}
+use Rattle.ov_model.specs.declared.answer.PingOutcome.TheVariants as outcome
 use Rattle.ov_model.specs.declared.answer.DropCause.{DropCause}
 use Rattle.ov_model.specs.declared.answer.DropCause.TheVariants.{BadTag}
 use Rattle.ov_model.specs.declared.replay.Verdict.{Verdict}
@@ -21,7 +23,8 @@ use Rattle.ov_model.specs.declared.note.Note.{Note}
 use Rattle.ov_model.specs.declared.report.LaneLog.{LaneLog}
 use Rattle.ov_model.specs.declared.report.Report.{Report}
 use Rattle.ov_model.specs.Keys.{sealing_in, same_dir}
-use Rattle.ov_report.specs.Print.{put_num, one, line_text, entry_text, replay_text, answer_text, note_text}
+use Rattle.ov_text.specs.Pieces.{put_num, one, line_text}
+use Rattle.ov_report.specs.Print.{entry_text, replay_text, answer_text, note_text}
 
 -- Whether an entry made a peer.
 abbrev pub makes_peer : Act → Reply → Bool
@@ -38,10 +41,16 @@ abbrev pub lets_peer_go : Act → Bool
 lets_peer_go (act.Released n) = true
 lets_peer_go _ = false
 
--- Whether an answer is a sealed datagram.
-abbrev pub is_sealed : Answer → Bool
-is_sealed (answer.Sealed s) = true
-is_sealed _ = false
+-- Whether a ping was sealed.
+abbrev pub is_sealed_ping : PingOutcome → Bool
+is_sealed_ping (outcome.Sealed s) = true
+is_sealed_ping _ = false
+
+-- How many datagrams an answer sealed: that of a packet, or those of a tick's pings.
+abbrev pub sealed_by : Answer → ℕ
+sealed_by (answer.Sealed s) = 1
+sealed_by (answer.Ticked expired pings) = count_by (λ p. is_sealed_ping p.outcome) pings
+sealed_by _ = 0
 
 -- Whether an answer is a delivered packet.
 abbrev pub is_delivered : Answer → Bool
@@ -79,6 +88,10 @@ answers lanes = sum_by (λ log. length log.answers) lanes
 abbrev pub answered : (Answer → Bool) → List LaneLog → ℕ
 answered test lanes = sum_by (λ log. count_by test log.answers) lanes
 
+-- How many datagrams the answers of all lanes sealed.
+abbrev pub sealed : List LaneLog → ℕ
+sealed lanes = sum_by (λ log. sum_by sealed_by log.answers) lanes
+
 -- Whether no two directions of a list have the same key bytes and nonce tail.
 abbrev pub all_differ : List KeyDir → Bool
 all_differ [] = true
@@ -91,7 +104,7 @@ keys_differ journal = all_differ (sealing_in journal)
 -- The counts of the summary, by their names.
 unfoldable pub summary_data : Report → Data
 summary_data r = one (codes "summary") (object
-    (put_num (codes "sealed") (answered is_sealed r.lanes)
+    (put_num (codes "sealed") (sealed r.lanes)
     (put_num (codes "released") (count_by (λ e. lets_peer_go e.call.act) r.journal)
     (put_num (codes "refused") (judged is_refused r.shards)
     (put_num (codes "peers") (count_by (λ e. makes_peer e.call.act e.reply) r.journal)

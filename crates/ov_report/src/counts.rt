@@ -5,7 +5,10 @@ ghost use Rattle.std.specs.Fn.{FnReturnsAt};
 ghost use Rattle.ov_report.specs.Summary as spec;
 
 use ov_base::{ListOf, Memory};
-use ov_model::{Act, Answer, Command, DropCause, Entry, LaneLog, ReplayEntry, Reply, Verdict};
+use ov_model::{
+    Act, Answer, Command, DropCause, Entry, LaneLog, PingOut, PingOutcome, ReplayEntry, Reply,
+    Verdict,
+};
 
 /// The sum of what is counted in each member of a list. More than a u64 counts no memory holds.
 fn total<T, F: Fn(&T) -> usize>(list: &[T], count: F) -> Result<u64, Memory>
@@ -84,13 +87,34 @@ pub fn released(entries: &[Entry]) -> usize
         .count()
 }
 
-/// Whether an answer is a sealed datagram.
-fn is_sealed(answer: &Answer) -> bool
-    ensures { result ≡ spec.is_sealed answer.now }
+/// Whether a ping was sealed.
+fn is_sealed_ping(outcome: &PingOutcome) -> bool
+    ensures { result ≡ spec.is_sealed_ping outcome.now }
+{
+    match outcome {
+        PingOutcome::Sealed(_) => true,
+        _ => false,
+    }
+}
+
+/// The number of sealed pings.
+fn sealed_pings(pings: &[PingOut]) -> usize
+    ensures { result ≡ count_by (λ p. spec.is_sealed_ping p.outcome) pings.now }
+{
+    pings
+        .iter()
+        .filter(|ping| is_sealed_ping(&ping.outcome))
+        .count()
+}
+
+/// The number of datagrams that an answer sealed.
+fn sealed_by(answer: &Answer) -> usize
+    ensures { result ≡ spec.sealed_by answer.now }
 {
     match answer {
-        Answer::Sealed(_) => true,
-        _ => false,
+        Answer::Sealed(_) => 1,
+        Answer::Ticked { pings, .. } => sealed_pings(pings.as_slice()),
+        _ => 0,
     }
 }
 
@@ -122,14 +146,19 @@ pub fn answers(lanes: &[LaneLog]) -> Result<u64, Memory>
     total(lanes, |log| log.answers.len())
 }
 
-/// The number of all lanes' sealed datagrams.
+/// The number of all lanes' sealed datagrams, those of packets and those of pings.
 pub fn sealed(lanes: &[LaneLog]) -> Result<u64, Memory>
-    ensures { IfOk result (λ n. n ≡ spec.answered spec.is_sealed lanes.now) }
+    ensures { IfOk result (λ n. n ≡ spec.sealed lanes.now) }
 {
-    total(lanes, |log| {
-        let answers = log.answers.as_slice();
-        answers.iter().filter(|answer| is_sealed(answer)).count()
-    })
+    let mut sum: u64 = 0;
+    for log in lanes {
+        let in_lane = total(log.answers.as_slice(), |answer| sealed_by(answer))?;
+        let Some(more) = sum.checked_add(in_lane) else {
+            return Err(Memory);
+        };
+        sum = more;
+    }
+    Ok(sum)
 }
 
 /// The number of all lanes' delivered packets.

@@ -4,22 +4,16 @@
 pub mod answer;
 pub mod counts;
 pub mod differ;
-mod digits;
-mod lanes;
 pub mod laws;
 mod listed;
-pub mod members;
 pub mod page;
-mod pieces;
 pub mod print;
 #[cfg(test)]
 mod print_tests;
-mod reply;
 pub mod summary;
 #[cfg(test)]
 mod tests;
 pub mod text;
-mod view;
 
 pub use answer::answer_line;
 pub use differ::keys_differ;

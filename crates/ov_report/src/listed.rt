@@ -35,12 +35,12 @@ impl Listed for Entry {
 
     fn append(
         &self,
-        alloc: Global,
+        _alloc: Global,
         _owner: u64,
         number: u64,
         page: &mut Vec<u8>,
     ) -> Result<(), Memory> {
-        append_entry(alloc, page, number, self)
+        append_entry(page, number, self)
     }
 }
 
@@ -63,12 +63,12 @@ impl Listed for Answer {
 
     fn append(
         &self,
-        alloc: Global,
+        _alloc: Global,
         owner: u64,
         number: u64,
         page: &mut Vec<u8>,
     ) -> Result<(), Memory> {
-        append_answer(alloc, page, owner, number, self)
+        append_answer(page, owner, number, self)
     }
 }
 

@@ -5,11 +5,12 @@ ghost use Rattle.serde_json.specs.Data.{no_members};
 ghost use Rattle.serde_json.specs.View.{view, members_view};
 ghost use Rattle.ov_report.specs.Print as spec;
 
-use crate::members::{Members, object_of, put_number, put_text, put_value};
-use crate::pieces::{append, append_number, append_value, append_word};
-use crate::reply::append_reply;
 use ov_base::{Memory, Octets};
 use ov_model::{Act, Command, Entry, Note, NoteBody, Reason, ReplayEntry, Verdict};
+use ov_text::{
+    Members, append, append_number, append_reply, append_value, append_word, object_of, put_number,
+    put_text, put_value,
+};
 use serde_json::{Map, Value};
 use std::alloc::Global;
 
@@ -27,11 +28,14 @@ fn call_name(act: &Act) -> &'static str
         Act::Do(Command::KeyGet(_, _)) => "key-get",
         Act::Do(Command::KeySwap(_)) => "key-swap",
         Act::Do(Command::KeyDel(_, _)) => "key-del",
+        Act::Do(Command::Tick) => "tick",
+        Act::Do(Command::Down) => "down",
         Act::TxLook(_) => "tx-look",
         Act::RxLook { .. } => "rx-look",
         Act::Sent { .. } => "sent",
         Act::Settle { .. } => "settle",
         Act::Spend { .. } => "spend",
+        Act::KeepLook(_) => "keep-look",
         Act::Released(_) => "released",
         Act::KeyReleased(_) => "key-released",
     }
@@ -51,12 +55,7 @@ fn reason_name(reason: Reason) -> &'static str
 }
 
 /// Puts the line of an entry of the journal, which has a number from 0.
-pub(crate) fn append_entry(
-    alloc: Global,
-    page: &mut Vec<u8>,
-    number: u64,
-    entry: &Entry,
-) -> Result<(), Memory>
+pub(crate) fn append_entry(page: &mut Vec<u8>, number: u64, entry: &Entry) -> Result<(), Memory>
     ensures { OnOk result (page.new.items ≡ page.old.items ++ spec.entry_text number entry.now) }
 {
     append_number(page, b"{\"at\":", entry.call.at as u64)?;
@@ -65,7 +64,7 @@ pub(crate) fn append_entry(
     append_number(page, b",\"lane\":", entry.place.lane as u64)?;
     append_number(page, b",\"line\":", entry.place.line)?;
     append(page, b",\"reply\":")?;
-    append_reply(alloc, page, &entry.reply)?;
+    append_reply(page, &entry.reply)?;
     append(page, b"}\n")?;
     Ok(())
 }
@@ -75,7 +74,7 @@ pub fn entry_line(alloc: Global, number: u64, entry: &Entry) -> Result<Octets, M
     ensures text { IfOk result (λ line. line ≡ spec.entry_text number entry.now) }
 {
     let mut page = Vec::new(alloc);
-    append_entry(alloc, &mut page, number, entry)?;
+    append_entry(&mut page, number, entry)?;
     Ok(Octets::of_vec(page))
 }
 

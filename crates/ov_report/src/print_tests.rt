@@ -1,11 +1,13 @@
 use crate::{answer_line, entry_line, note_line, replay_line};
-use ov_base::{Addr, Boxed, ListOf, Memory, Octets, Transport};
+use ov_base::{Addr, Boxed, ListOf, Octets, Transport};
 use ov_model::{
     Act, Answer, Attrs, Call, Cipher, Command, Counts, DropCause, Entry, Errno, HoldView,
     InnerKind, Keepalive, KeyBytes, KeyConf, KeyDir, KeyId, KeyView, Note, NoteBody, PeerId,
-    PeerView, Place, Reason, ReplayEntry, Reply, SealedOut, Settled, Slot, Verdict,
+    PeerView, PingOut, PingOutcome, Place, Reason, ReplayEntry, Reply, SealedOut, Settled, Slot,
+    Verdict,
 };
 use std::alloc::Global;
+use std::process::Abort;
 use std::test::Fail;
 
 /// An IPv4 packet without content from 10.8.0.5 to itself.
@@ -13,13 +15,55 @@ const PACKET: [u8; 20] = [
     0x45, 0, 0, 20, 0, 0, 0, 0, 64, 17, 0, 0, 10, 8, 0, 5, 10, 8, 0, 5,
 ];
 
-/// The list with one serial.
-fn one(alloc: Global, serial: u32) -> Result<ListOf<u32>, Memory> {
-    let mut list = ListOf::new(alloc);
-    match list.push(serial) {
-        Ok(()) => Ok(list),
-        Err(_) => Err(Memory),
-    }
+/// These bytes.
+fn octets(rt: &impl Abort, alloc: Global, bytes: &[u8]) -> Octets {
+    let Ok(made) = Octets::of(alloc, bytes) else {
+        panic!(rt; "no memory");
+    };
+    made
+}
+
+/// The list of these serials.
+fn serials(rt: &impl Abort, alloc: Global, numbers: &[u32]) -> ListOf<u32> {
+    let Ok(made) = Vec::from_slice(alloc, numbers) else {
+        panic!(rt; "no memory");
+    };
+    ListOf::of_vec(made)
+}
+
+/// The list of a ping with each outcome, of the peers 1 to 3.
+fn pings(rt: &impl Abort, alloc: Global) -> ListOf<PingOut> {
+    let mut all = ListOf::new(alloc);
+    let sealed = SealedOut {
+        to: first_remote(),
+        key: 8,
+        id: 2,
+        datagram: octets(rt, alloc, &[0x4a, 0, 0, 5, 0, 0, 0, 2, 0xff]),
+    };
+    let first = PingOut {
+        peer: 1,
+        outcome: PingOutcome::Sealed(sealed),
+    };
+    let second = PingOut {
+        peer: 2,
+        outcome: PingOutcome::Spent,
+    };
+    let third = PingOut {
+        peer: 3,
+        outcome: PingOutcome::Skip,
+    };
+    assert!(rt; all.push(first).is_ok());
+    assert!(rt; all.push(second).is_ok());
+    assert!(rt; all.push(third).is_ok());
+    all
+}
+
+/// The line of an answer to the line 3 of the lane 1 has this text.
+fn has_text(rt: &impl Abort, alloc: Global, answer: Answer, text: &str) {
+    let Ok(line) = answer_line(alloc, 1, 3, &answer) else {
+        panic!(rt; "no memory");
+    };
+    assert!(rt; line.as_slice() == text.as_bytes(), "{text}");
 }
 
 /// The remote 192.0.2.1 with port 1194.
@@ -31,7 +75,8 @@ fn first_remote() -> Transport {
 }
 
 #[test]
-fn answers_have_their_texts(rt: HostRuntime) -> Result<(), Fail> {
+fn answers_have_their_texts(rt: HostRuntime) {
+    let alloc = rt.alloc();
     let (Some(peer), Some(key_id)) = (PeerId::new(5), KeyId::new(2)) else {
         panic!(rt; "ids in range");
     };
@@ -53,174 +98,259 @@ fn answers_have_their_texts(rt: HostRuntime) -> Result<(), Fail> {
         key_id,
         cipher: Cipher::AesGcm,
     };
-    let rows = [
-        (
-            Answer::Reply(Reply::Made(0)),
-            "{\"answer\":{\"serial\":0},\"lane\":1,\"line\":3}\n",
-        ),
-        (
-            Answer::Reply(Reply::Done),
-            "{\"answer\":{\"ok\":true},\"lane\":1,\"line\":3}\n",
-        ),
-        (
-            Answer::Reply(Reply::Removed(one(rt.alloc(), 0)?)),
-            "{\"answer\":{\"removed\":[0]},\"lane\":1,\"line\":3}\n",
-        ),
-        (
-            Answer::Reply(Reply::Hold(hold)),
-            "{\"answer\":{\"hold\":{\"key\":7,\"peer\":3}},\"lane\":1,\"line\":3}\n",
-        ),
-        (
-            Answer::Reply(Reply::NoPeer),
-            "{\"answer\":{\"none\":\"no-peer\"},\"lane\":1,\"line\":3}\n",
-        ),
-        (
-            Answer::Reply(Reply::NoKey),
-            "{\"answer\":{\"none\":\"no-key\"},\"lane\":1,\"line\":3}\n",
-        ),
-        (
-            Answer::Reply(Reply::Settled(Settled::Deliver)),
-            "{\"answer\":{\"settled\":\"deliver\"},\"lane\":1,\"line\":3}\n",
-        ),
-        (
-            Answer::Reply(Reply::Settled(Settled::Ping)),
-            "{\"answer\":{\"settled\":\"ping\"},\"lane\":1,\"line\":3}\n",
-        ),
-        (
-            Answer::Reply(Reply::Settled(Settled::NotIp)),
-            "{\"answer\":{\"settled\":\"not-ip\"},\"lane\":1,\"line\":3}\n",
-        ),
-        (
-            Answer::Reply(Reply::Settled(Settled::NotOwner)),
-            "{\"answer\":{\"settled\":\"not-owner\"},\"lane\":1,\"line\":3}\n",
-        ),
-        (
-            Answer::Reply(Reply::Key(view)),
-            "{\"answer\":{\"key\":{\"cipher-alg\":\"aes-gcm\",\"key-id\":2,\"peer-id\":5,\"slot\":\"secondary\"}},\"lane\":1,\"line\":3}\n",
-        ),
-        (
-            Answer::Reply(Reply::Killed),
-            "{\"answer\":{\"spend\":\"killed\"},\"lane\":1,\"line\":3}\n",
-        ),
-        (
-            Answer::Reply(Reply::AlreadyGone),
-            "{\"answer\":{\"spend\":\"already-gone\"},\"lane\":1,\"line\":3}\n",
-        ),
-        (
-            Answer::Reply(Reply::Released(0)),
-            "{\"answer\":{\"released\":0},\"lane\":1,\"line\":3}\n",
-        ),
-        (
-            Answer::Reply(Reply::KeyReleased(0)),
-            "{\"answer\":{\"key-released\":0},\"lane\":1,\"line\":3}\n",
-        ),
-        (
-            Answer::Reply(Reply::Refused(Errno::NoEntry)),
-            "{\"answer\":{\"error\":2},\"lane\":1,\"line\":3}\n",
-        ),
-        (
-            Answer::Reply(Reply::Refused(Errno::Exists)),
-            "{\"answer\":{\"error\":17},\"lane\":1,\"line\":3}\n",
-        ),
-        (
-            Answer::Reply(Reply::Refused(Errno::Invalid)),
-            "{\"answer\":{\"error\":22},\"lane\":1,\"line\":3}\n",
-        ),
-        (
-            Answer::Reply(Reply::Refused(Errno::NoSpace)),
-            "{\"answer\":{\"error\":28},\"lane\":1,\"line\":3}\n",
-        ),
-        (
-            Answer::Reply(Reply::Refused(Errno::NotSupported)),
-            "{\"answer\":{\"error\":95},\"lane\":1,\"line\":3}\n",
-        ),
-        (
-            Answer::Sealed(SealedOut {
-                to: four,
-                key: 0,
-                id: 1,
-                datagram: Octets::of(rt.alloc(), &[0x4a, 0, 0, 5, 0, 0, 0, 1])?,
-            }),
-            "{\"answer\":{\"sealed\":{\"datagram\":\"4a00000500000001\",\"id\":1,\"key\":0,\"to\":{\"addr\":\"192.0.2.1\",\"port\":1194}}},\"lane\":1,\"line\":3}\n",
-        ),
-        (
-            Answer::Sealed(SealedOut {
-                to: six,
-                key: 4,
-                id: 4294967295,
-                datagram: Octets::of(rt.alloc(), &[])?,
-            }),
-            "{\"answer\":{\"sealed\":{\"datagram\":\"\",\"id\":4294967295,\"key\":4,\"to\":{\"addr\":\"fd0000000000000000000000000000ab\",\"port\":65535}}},\"lane\":1,\"line\":3}\n",
-        ),
-        (
-            Answer::Delivered {
-                peer,
-                packet: Octets::of(rt.alloc(), &PACKET)?,
-            },
-            "{\"answer\":{\"delivered\":{\"packet\":\"4500001400000000401100000a0800050a080005\",\"peer\":5}},\"lane\":1,\"line\":3}\n",
-        ),
-        (
-            Answer::Keepalive(peer),
-            "{\"answer\":{\"keepalive\":5},\"lane\":1,\"line\":3}\n",
-        ),
-        (
-            Answer::Control,
-            "{\"answer\":{\"passed\":\"control\"},\"lane\":1,\"line\":3}\n",
-        ),
-        (
-            Answer::Dropped(DropCause::Short),
-            "{\"answer\":{\"dropped\":\"short\"},\"lane\":1,\"line\":3}\n",
-        ),
-        (
-            Answer::Dropped(DropCause::DataV1),
-            "{\"answer\":{\"dropped\":\"data-v1\"},\"lane\":1,\"line\":3}\n",
-        ),
-        (
-            Answer::Dropped(DropCause::NoPeer),
-            "{\"answer\":{\"dropped\":\"no-peer\"},\"lane\":1,\"line\":3}\n",
-        ),
-        (
-            Answer::Dropped(DropCause::NoKey),
-            "{\"answer\":{\"dropped\":\"no-key\"},\"lane\":1,\"line\":3}\n",
-        ),
-        (
-            Answer::Dropped(DropCause::BadTag),
-            "{\"answer\":{\"dropped\":\"bad-tag\"},\"lane\":1,\"line\":3}\n",
-        ),
-        (
-            Answer::Dropped(DropCause::Zero),
-            "{\"answer\":{\"dropped\":\"zero\"},\"lane\":1,\"line\":3}\n",
-        ),
-        (
-            Answer::Dropped(DropCause::Old),
-            "{\"answer\":{\"dropped\":\"old\"},\"lane\":1,\"line\":3}\n",
-        ),
-        (
-            Answer::Dropped(DropCause::Below),
-            "{\"answer\":{\"dropped\":\"below\"},\"lane\":1,\"line\":3}\n",
-        ),
-        (
-            Answer::Dropped(DropCause::Again),
-            "{\"answer\":{\"dropped\":\"again\"},\"lane\":1,\"line\":3}\n",
-        ),
-        (
-            Answer::Dropped(DropCause::NotIp),
-            "{\"answer\":{\"dropped\":\"not-ip\"},\"lane\":1,\"line\":3}\n",
-        ),
-        (
-            Answer::Dropped(DropCause::NotOwner),
-            "{\"answer\":{\"dropped\":\"not-owner\"},\"lane\":1,\"line\":3}\n",
-        ),
-        (
-            Answer::Dropped(DropCause::Spent),
-            "{\"answer\":{\"dropped\":\"spent\"},\"lane\":1,\"line\":3}\n",
-        ),
-    ];
-    for (number, (answer, text)) in rows.iter().enumerate() {
-        let line = answer_line(rt.alloc(), 1, 3, answer)?;
-        assert!(rt; line.as_slice() == text.as_bytes(), "row {number}");
-    }
-    Ok(())
+    has_text(
+        &rt,
+        alloc,
+        Answer::Reply(Reply::Made(0)),
+        "{\"answer\":{\"serial\":0},\"lane\":1,\"line\":3}\n",
+    );
+    has_text(
+        &rt,
+        alloc,
+        Answer::Reply(Reply::Done),
+        "{\"answer\":{\"ok\":true},\"lane\":1,\"line\":3}\n",
+    );
+    has_text(
+        &rt,
+        alloc,
+        Answer::Reply(Reply::Removed(serials(&rt, alloc, &[0]))),
+        "{\"answer\":{\"removed\":[0]},\"lane\":1,\"line\":3}\n",
+    );
+    has_text(
+        &rt,
+        alloc,
+        Answer::Reply(Reply::Hold(hold)),
+        "{\"answer\":{\"hold\":{\"key\":7,\"peer\":3}},\"lane\":1,\"line\":3}\n",
+    );
+    has_text(
+        &rt,
+        alloc,
+        Answer::Reply(Reply::NoPeer),
+        "{\"answer\":{\"none\":\"no-peer\"},\"lane\":1,\"line\":3}\n",
+    );
+    has_text(
+        &rt,
+        alloc,
+        Answer::Reply(Reply::NoKey),
+        "{\"answer\":{\"none\":\"no-key\"},\"lane\":1,\"line\":3}\n",
+    );
+    has_text(
+        &rt,
+        alloc,
+        Answer::Reply(Reply::Settled(Settled::Deliver)),
+        "{\"answer\":{\"settled\":\"deliver\"},\"lane\":1,\"line\":3}\n",
+    );
+    has_text(
+        &rt,
+        alloc,
+        Answer::Reply(Reply::Settled(Settled::Ping)),
+        "{\"answer\":{\"settled\":\"ping\"},\"lane\":1,\"line\":3}\n",
+    );
+    has_text(
+        &rt,
+        alloc,
+        Answer::Reply(Reply::Settled(Settled::NotIp)),
+        "{\"answer\":{\"settled\":\"not-ip\"},\"lane\":1,\"line\":3}\n",
+    );
+    has_text(
+        &rt,
+        alloc,
+        Answer::Reply(Reply::Settled(Settled::NotOwner)),
+        "{\"answer\":{\"settled\":\"not-owner\"},\"lane\":1,\"line\":3}\n",
+    );
+    has_text(
+        &rt,
+        alloc,
+        Answer::Reply(Reply::Key(view)),
+        "{\"answer\":{\"key\":{\"cipher-alg\":\"aes-gcm\",\"key-id\":2,\"peer-id\":5,\"slot\":\"secondary\"}},\"lane\":1,\"line\":3}\n",
+    );
+    has_text(
+        &rt,
+        alloc,
+        Answer::Reply(Reply::Killed),
+        "{\"answer\":{\"spend\":\"killed\"},\"lane\":1,\"line\":3}\n",
+    );
+    has_text(
+        &rt,
+        alloc,
+        Answer::Reply(Reply::AlreadyGone),
+        "{\"answer\":{\"spend\":\"already-gone\"},\"lane\":1,\"line\":3}\n",
+    );
+    has_text(
+        &rt,
+        alloc,
+        Answer::Reply(Reply::Released(0)),
+        "{\"answer\":{\"released\":0},\"lane\":1,\"line\":3}\n",
+    );
+    has_text(
+        &rt,
+        alloc,
+        Answer::Reply(Reply::KeyReleased(0)),
+        "{\"answer\":{\"key-released\":0},\"lane\":1,\"line\":3}\n",
+    );
+    has_text(
+        &rt,
+        alloc,
+        Answer::Reply(Reply::Refused(Errno::NoEntry)),
+        "{\"answer\":{\"error\":2},\"lane\":1,\"line\":3}\n",
+    );
+    has_text(
+        &rt,
+        alloc,
+        Answer::Reply(Reply::Refused(Errno::Exists)),
+        "{\"answer\":{\"error\":17},\"lane\":1,\"line\":3}\n",
+    );
+    has_text(
+        &rt,
+        alloc,
+        Answer::Reply(Reply::Refused(Errno::Invalid)),
+        "{\"answer\":{\"error\":22},\"lane\":1,\"line\":3}\n",
+    );
+    has_text(
+        &rt,
+        alloc,
+        Answer::Reply(Reply::Refused(Errno::NoSpace)),
+        "{\"answer\":{\"error\":28},\"lane\":1,\"line\":3}\n",
+    );
+    has_text(
+        &rt,
+        alloc,
+        Answer::Reply(Reply::Refused(Errno::NotSupported)),
+        "{\"answer\":{\"error\":95},\"lane\":1,\"line\":3}\n",
+    );
+    has_text(
+        &rt,
+        alloc,
+        Answer::Sealed(SealedOut {
+            to: four,
+            key: 0,
+            id: 1,
+            datagram: octets(&rt, alloc, &[0x4a, 0, 0, 5, 0, 0, 0, 1]),
+        }),
+        "{\"answer\":{\"sealed\":{\"datagram\":\"4a00000500000001\",\"id\":1,\"key\":0,\"to\":{\"addr\":\"192.0.2.1\",\"port\":1194}}},\"lane\":1,\"line\":3}\n",
+    );
+    has_text(
+        &rt,
+        alloc,
+        Answer::Sealed(SealedOut {
+            to: six,
+            key: 4,
+            id: 4294967295,
+            datagram: octets(&rt, alloc, &[]),
+        }),
+        "{\"answer\":{\"sealed\":{\"datagram\":\"\",\"id\":4294967295,\"key\":4,\"to\":{\"addr\":\"fd0000000000000000000000000000ab\",\"port\":65535}}},\"lane\":1,\"line\":3}\n",
+    );
+    has_text(
+        &rt,
+        alloc,
+        Answer::Delivered {
+            peer,
+            packet: octets(&rt, alloc, &PACKET),
+        },
+        "{\"answer\":{\"delivered\":{\"packet\":\"4500001400000000401100000a0800050a080005\",\"peer\":5}},\"lane\":1,\"line\":3}\n",
+    );
+    has_text(
+        &rt,
+        alloc,
+        Answer::Keepalive(peer),
+        "{\"answer\":{\"keepalive\":5},\"lane\":1,\"line\":3}\n",
+    );
+    has_text(
+        &rt,
+        alloc,
+        Answer::Control,
+        "{\"answer\":{\"passed\":\"control\"},\"lane\":1,\"line\":3}\n",
+    );
+    has_text(
+        &rt,
+        alloc,
+        Answer::Dropped(DropCause::Short),
+        "{\"answer\":{\"dropped\":\"short\"},\"lane\":1,\"line\":3}\n",
+    );
+    has_text(
+        &rt,
+        alloc,
+        Answer::Dropped(DropCause::DataV1),
+        "{\"answer\":{\"dropped\":\"data-v1\"},\"lane\":1,\"line\":3}\n",
+    );
+    has_text(
+        &rt,
+        alloc,
+        Answer::Dropped(DropCause::NoPeer),
+        "{\"answer\":{\"dropped\":\"no-peer\"},\"lane\":1,\"line\":3}\n",
+    );
+    has_text(
+        &rt,
+        alloc,
+        Answer::Dropped(DropCause::NoKey),
+        "{\"answer\":{\"dropped\":\"no-key\"},\"lane\":1,\"line\":3}\n",
+    );
+    has_text(
+        &rt,
+        alloc,
+        Answer::Dropped(DropCause::BadTag),
+        "{\"answer\":{\"dropped\":\"bad-tag\"},\"lane\":1,\"line\":3}\n",
+    );
+    has_text(
+        &rt,
+        alloc,
+        Answer::Dropped(DropCause::Zero),
+        "{\"answer\":{\"dropped\":\"zero\"},\"lane\":1,\"line\":3}\n",
+    );
+    has_text(
+        &rt,
+        alloc,
+        Answer::Dropped(DropCause::Old),
+        "{\"answer\":{\"dropped\":\"old\"},\"lane\":1,\"line\":3}\n",
+    );
+    has_text(
+        &rt,
+        alloc,
+        Answer::Dropped(DropCause::Below),
+        "{\"answer\":{\"dropped\":\"below\"},\"lane\":1,\"line\":3}\n",
+    );
+    has_text(
+        &rt,
+        alloc,
+        Answer::Dropped(DropCause::Again),
+        "{\"answer\":{\"dropped\":\"again\"},\"lane\":1,\"line\":3}\n",
+    );
+    has_text(
+        &rt,
+        alloc,
+        Answer::Dropped(DropCause::NotIp),
+        "{\"answer\":{\"dropped\":\"not-ip\"},\"lane\":1,\"line\":3}\n",
+    );
+    has_text(
+        &rt,
+        alloc,
+        Answer::Dropped(DropCause::NotOwner),
+        "{\"answer\":{\"dropped\":\"not-owner\"},\"lane\":1,\"line\":3}\n",
+    );
+    has_text(
+        &rt,
+        alloc,
+        Answer::Dropped(DropCause::Spent),
+        "{\"answer\":{\"dropped\":\"spent\"},\"lane\":1,\"line\":3}\n",
+    );
+    has_text(
+        &rt,
+        alloc,
+        Answer::Ticked {
+            expired: ListOf::new(alloc),
+            pings: ListOf::new(alloc),
+        },
+        "{\"answer\":{\"expired\":[],\"pings\":[]},\"lane\":1,\"line\":3}\n",
+    );
+    has_text(
+        &rt,
+        alloc,
+        Answer::Ticked {
+            expired: serials(&rt, alloc, &[0, 4095]),
+            pings: pings(&rt, alloc),
+        },
+        "{\"answer\":{\"expired\":[0,4095],\"pings\":[{\"outcome\":{\"sealed\":{\"datagram\":\"4a00000500000002ff\",\"id\":2,\"key\":8,\"to\":{\"addr\":\"192.0.2.1\",\"port\":1194}}},\"peer\":1},{\"outcome\":{\"dropped\":\"spent\"},\"peer\":2},{\"outcome\":{\"none\":\"skip\"},\"peer\":3}]},\"lane\":1,\"line\":3}\n",
+    );
 }
 
 #[test]
@@ -283,6 +413,37 @@ fn entries_have_their_calls(rt: HostRuntime) -> Result<(), Fail> {
         (
             Act::Do(Command::KeyDel(peer, Slot::Secondary)),
             "{\"at\":0,\"call\":\"key-del\",\"journal\":3,\"lane\":0,\"line\":2,\"reply\":{\"key-released\":0}}\n",
+        ),
+        (
+            Act::Do(Command::Tick),
+            "{\"at\":0,\"call\":\"tick\",\"journal\":3,\"lane\":0,\"line\":2,\"reply\":{\"key-released\":0}}\n",
+        ),
+        (
+            Act::Do(Command::Down),
+            "{\"at\":0,\"call\":\"down\",\"journal\":3,\"lane\":0,\"line\":2,\"reply\":{\"key-released\":0}}\n",
+        ),
+        (
+            Act::KeepLook(7),
+            "{\"at\":0,\"call\":\"keep-look\",\"journal\":3,\"lane\":0,\"line\":2,\"reply\":{\"key-released\":0}}\n",
+        ),
+        (
+            Act::Sent {
+                peer: 7,
+                inner: 16,
+                outer: 40,
+                ping: true,
+            },
+            "{\"at\":0,\"call\":\"sent\",\"journal\":3,\"lane\":0,\"line\":2,\"reply\":{\"key-released\":0}}\n",
+        ),
+        (
+            Act::Settle {
+                peer: 7,
+                from: Some(four),
+                kind: InnerKind::From(Addr::V4([10, 8, 0, 5])),
+                inner: 20,
+                outer: 44,
+            },
+            "{\"at\":0,\"call\":\"settle\",\"journal\":3,\"lane\":0,\"line\":2,\"reply\":{\"key-released\":0}}\n",
         ),
         (
             Act::TxLook(Addr::V4([10, 8, 0, 5])),
@@ -482,6 +643,26 @@ fn notes_have_their_texts(rt: HostRuntime) -> Result<(), Fail> {
                 },
             },
             "{\"journal\":2,\"notify\":\"peer-del-ntf\",\"peer\":{\"del-reason\":\"userspace\",\"id\":5}}\n",
+        ),
+        (
+            Note {
+                entry: 0,
+                body: NoteBody::PeerDel {
+                    id,
+                    reason: Reason::Expired,
+                },
+            },
+            "{\"journal\":0,\"notify\":\"peer-del-ntf\",\"peer\":{\"del-reason\":\"expired\",\"id\":5}}\n",
+        ),
+        (
+            Note {
+                entry: 7,
+                body: NoteBody::PeerDel {
+                    id,
+                    reason: Reason::Teardown,
+                },
+            },
+            "{\"journal\":7,\"notify\":\"peer-del-ntf\",\"peer\":{\"del-reason\":\"teardown\",\"id\":5}}\n",
         ),
         (
             Note {

@@ -8,9 +8,9 @@ use crate::counts::{
     accepted, answers, bad_tags, delivered, keys, peers, refused, released, sealed,
 };
 use crate::differ::keys_differ;
-use crate::members::{object_of, one, put_number, put_value};
 use ov_base::Memory;
 use ov_model::Report;
+use ov_text::{object_of, one, put_number, put_value};
 use serde_json::{Map, Value};
 use std::alloc::Global;
 

@@ -1,9 +1,9 @@
 use crate::{PrintStop, keys_differ, print_report};
 use ov_base::{Addr, ListOf, Memory, MemorySink, Octets, Transport};
 use ov_model::{
-    Act, Answer, Attrs, Call, Command, DropCause, Entry, Errno, KeyBytes, KeyConf, KeyDir, KeyId,
-    LaneLog, Note, NoteBody, PeerId, Place, Reason, ReplayEntry, Reply, Report, SealedOut, Slot,
-    Verdict,
+    Act, Answer, Attrs, Call, Command, DropCause, Entry, Errno, HoldView, KeyBytes, KeyConf,
+    KeyDir, KeyId, LaneLog, Note, NoteBody, PeerId, PingOut, PingOutcome, Place, Reason,
+    ReplayEntry, Reply, Report, SealedOut, Slot, Verdict,
 };
 use std::alloc::Global;
 use std::test::Fail;
@@ -175,6 +175,52 @@ fn a_session_of_one_peer_has_its_nine_lines(rt: HostRuntime) -> Result<(), Fail>
         br#"{"answer":{"error":2},"lane":0,"line":2}"#,
         br#"{"journal":1,"notify":"peer-del-ntf","peer":{"del-reason":"userspace","id":5}}"#,
         br#"{"summary":{"accepted":0,"answers":3,"bad-tag":0,"delivered":0,"journal":4,"keys":0,"keys-differ":true,"notes":1,"peers":1,"refused":0,"released":1,"sealed":0}}"#,
+    ];
+    assert!(rt; text == joined(alloc, &lines)?);
+    Ok(())
+}
+
+/// A datagram of one byte to the remote, sealed with the key of serial 0.
+fn sealed(alloc: Global, id: u32, byte: u8) -> Result<SealedOut, Memory> {
+    Ok(SealedOut {
+        to: remote(),
+        key: 0,
+        id,
+        datagram: Octets::of(alloc, &[byte])?,
+    })
+}
+
+/// The answer of a tick that removed the peer 1, sealed a ping to the peer 0 and passed the peer 2 over.
+fn ticked(alloc: Global) -> Result<Answer, Memory> {
+    let mut pings = Vec::new(alloc);
+    let first = PingOutcome::Sealed(sealed(alloc, 2, 0x4b)?);
+    pings.push(PingOut {
+        peer: 0,
+        outcome: first,
+    })?;
+    pings.push(PingOut {
+        peer: 2,
+        outcome: PingOutcome::Skip,
+    })?;
+    Ok(Answer::Ticked {
+        expired: ListOf::of_vec(Vec::from_slice(alloc, &[1])?),
+        pings: ListOf::of_vec(pings),
+    })
+}
+
+#[test]
+fn sealed_pings_count_as_sealed(rt: HostRuntime) -> Result<(), Fail> {
+    let alloc = rt.alloc();
+    let mut answers = Vec::new(alloc);
+    answers.push(Answer::Sealed(sealed(alloc, 1, 0x4a)?))?;
+    answers.push(ticked(alloc)?)?;
+    let none = shards(alloc, Vec::new(alloc), Vec::new(alloc))?;
+    let session = report(alloc, Vec::new(alloc), none, answers, Vec::new(alloc))?;
+    let text = text_of(alloc, &session)?;
+    let lines: [&[u8]; 3] = [
+        br#"{"answer":{"sealed":{"datagram":"4a","id":1,"key":0,"to":{"addr":"192.0.2.1","port":1194}}},"lane":0,"line":0}"#,
+        br#"{"answer":{"expired":[1],"pings":[{"outcome":{"sealed":{"datagram":"4b","id":2,"key":0,"to":{"addr":"192.0.2.1","port":1194}}},"peer":0},{"outcome":{"none":"skip"},"peer":2}]},"lane":0,"line":1}"#,
+        br#"{"summary":{"accepted":0,"answers":2,"bad-tag":0,"delivered":0,"journal":0,"keys":0,"keys-differ":true,"notes":0,"peers":0,"refused":0,"released":0,"sealed":2}}"#,
     ];
     assert!(rt; text == joined(alloc, &lines)?);
     Ok(())

@@ -9,10 +9,10 @@ ghost use Rattle.ov_report.specs.Printing.{Passed, Stopped, full_page};
 
 use crate::listed::print_list;
 use crate::page::{PrintStop, flush, pass};
-use crate::pieces::{append, append_value};
 use crate::summary::summary;
 use ov_base::{ListOf, Sink};
 use ov_model::{LaneLog, ReplayEntry, Report};
+use ov_text::{append, append_value};
 use std::alloc::Global;
 
 /// Prints the replay steps of the shards in turn.

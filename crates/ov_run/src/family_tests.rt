@@ -203,33 +203,6 @@ fn a_deleted_key_that_is_still_held_is_released_by_the_receipt(
     )
 }
 
-#[test]
-fn a_key_at_the_last_id_of_the_words_is_spent(rt: HostRuntime) -> Result<(), Fail> {
-    written(
-        &rt,
-        rt.alloc(),
-        &["trace", "--first-id", "4294967295"],
-        &[PEER5, KEY5, SEND5, SEND5, SEND5],
-        &[
-            PEER_MADE,
-            KEY_MADE,
-            r#"{"at":0,"call":"tx-look","journal":2,"lane":0,"line":2,"reply":{"hold":{"key":0,"peer":0}}}"#,
-            r#"{"at":0,"call":"sent","journal":3,"lane":0,"line":2,"reply":{"ok":true}}"#,
-            r#"{"at":0,"call":"tx-look","journal":4,"lane":0,"line":3,"reply":{"hold":{"key":0,"peer":0}}}"#,
-            r#"{"at":0,"call":"spend","journal":5,"lane":0,"line":3,"reply":{"spend":"killed"}}"#,
-            r#"{"at":0,"call":"key-released","journal":6,"lane":0,"line":3,"reply":{"key-released":0}}"#,
-            r#"{"at":0,"call":"tx-look","journal":7,"lane":0,"line":4,"reply":{"none":"no-key"}}"#,
-            PEER_ANSWER,
-            KEY_ANSWER,
-            r#"{"answer":{"sealed":{"datagram":"4a000005ffffffff12a605661f524bc8b2c541ce712859fd0db94b3ff95392059eed5bbaab25167008b92bc0","id":4294967295,"key":0,"to":{"addr":"192.0.2.1","port":1194}}},"lane":0,"line":2}"#,
-            r#"{"answer":{"dropped":"spent"},"lane":0,"line":3}"#,
-            r#"{"answer":{"dropped":"no-key"},"lane":0,"line":4}"#,
-            r#"{"journal":5,"keyconf":{"key-id":2,"peer-id":5},"notify":"key-swap-ntf"}"#,
-            r#"{"summary":{"accepted":0,"answers":5,"bad-tag":0,"delivered":0,"journal":8,"keys":1,"keys-differ":true,"notes":1,"peers":1,"refused":0,"released":0,"sealed":1}}"#,
-        ],
-    )
-}
-
 /// The line of a peer whose id, VPN address and remote are its number's.
 fn peer_line(alloc: Global, number: u32) -> Result<String, Memory> {
     let [_, _, high, low] = number.to_be_bytes();

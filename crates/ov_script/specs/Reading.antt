@@ -81,9 +81,11 @@ abbrev pub is_dump : NlOp → Bool
 is_dump op.PeerDump = true
 is_dump _ = false
 
--- What a line asks for is answered by all peers.
+-- What a line asks for is answered by all peers: a dump, a tick, or the end of the device.
 abbrev pub is_wide_deed : Deed → Bool
 is_wide_deed (deed.Netlink message) = is_dump message.op
+is_wide_deed deed.Tick = true
+is_wide_deed deed.Down = true
 is_wide_deed _ = false
 
 -- Whether a line is one of those that are answered by all peers, which are told apart here as wide.

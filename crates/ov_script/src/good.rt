@@ -9,7 +9,8 @@ use ov_line::{LineStop, Why, read_line};
 use ov_model::{Deed, Line, NlOp};
 use std::alloc::Global;
 
-/// The most lines of a script that are answered by all peers: each answer may be long, and is held in memory.
+/// The most lines of `peer-dump`, `tick` and `down` of a script together. All peers answer them: each answer may be
+/// long, and is held in memory.
 pub const MOST_WIDE: usize = 1_024;
 
 /// The lines that were found good, in order.
@@ -81,6 +82,7 @@ fn is_wide(line: &Line) -> bool
 {
     match &line.deed {
         Deed::Netlink(message) => matches!(message.get().op, NlOp::PeerDump),
+        Deed::Tick | Deed::Down => true,
         _ => false,
     }
 }

@@ -10,6 +10,15 @@ const SEND: &[u8] = br#"{"at":0,"do":"tx","lane":0,"packet":""}"#;
 
 const DUMP: &[u8] = br#"{"at":0,"do":"peer-dump","lane":0}"#;
 
+const TICK: &[u8] = br#"{"at":0,"do":"tick","lane":0}"#;
+
+const DOWN: &[u8] = br#"{"at":0,"do":"down","lane":0}"#;
+
+/// Four lines that all peers answer, one of them without an end.
+const MIX: &[u8] =
+    b"{\"at\":0,\"do\":\"tick\",\"lane\":0}\n{\"at\":0,\"do\":\"peer-dump\",\"lane\":0}\n\
+    {\"at\":0,\"do\":\"down\",\"lane\":0}\n{\"at\":0,\"do\":\"tick\",\"lane\":0}";
+
 /// Gives one text again and again, a read each, and then another: so a long script isn't kept in memory.
 #[derive(Drop)]
 struct Again {
@@ -152,19 +161,28 @@ fn a_script_has_at_most_67108864_bytes(rt: HostRuntime) -> Result<(), Fail> {
 }
 
 #[test]
-fn a_script_has_at_most_1024_dumps(rt: HostRuntime) -> Result<(), Fail> {
-    // How many dumps there are, what follows, the end, and how many lines were found good.
-    let rows: [(u32, &[u8], Result<usize, ReadStop>, u64); 5] = [
-        (1_024, b"", Ok(1_024), 1_024),
-        (1_024, SEND, Ok(1_025), 1_025),
-        (1_025, b"", Err(ReadStop::Limit(Limit::Wide)), 1_024),
-        (1_024, DUMP, Err(ReadStop::Limit(Limit::Wide)), 1_024),
-        (1_024, b"{\n", Err(ReadStop::Bad(1_025)), 1_024),
+fn a_script_has_at_most_1024_dumps_ticks_and_ends_of_the_device(
+    rt: HostRuntime,
+) -> Result<(), Fail> {
+    const WIDE: Result<usize, ReadStop> = Err(ReadStop::Limit(Limit::Wide));
+    // What is read again and again, how often, what follows, the end, and how many lines were found good.
+    let rows: [(&[u8], u32, &[u8], Result<usize, ReadStop>, u64); 10] = [
+        (DUMP, 1_024, b"", Ok(1_024), 1_024),
+        (DUMP, 1_024, SEND, Ok(1_025), 1_025),
+        (DUMP, 1_025, b"", WIDE, 1_024),
+        (DUMP, 1_024, DUMP, WIDE, 1_024),
+        (DUMP, 1_024, b"{\n", Err(ReadStop::Bad(1_025)), 1_024),
+        // 5: of several kinds
+        (MIX, 256, b"", Ok(1_024), 1_024),
+        (MIX, 256, SEND, Ok(1_025), 1_025),
+        (MIX, 256, TICK, WIDE, 1_024),
+        (MIX, 256, DOWN, WIDE, 1_024),
+        (MIX, 256, DUMP, WIDE, 1_024),
     ];
-    for (times, last, expected, good) in rows {
-        let text = padded(rt.alloc(), DUMP, DUMP.len(), b"\n")?;
+    for (number, (line, times, last, expected, good)) in rows.into_iter().enumerate() {
+        let text = padded(rt.alloc(), line, line.len(), b"\n")?;
         let reading = many(rt.alloc(), text, times, last)?;
-        assert!(rt; lines_of(&reading) == expected, "{times} dumps");
+        assert!(rt; lines_of(&reading) == expected, "row {number}");
         assert_eq!(rt; reading.good, good);
     }
     Ok(())

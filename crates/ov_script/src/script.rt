@@ -31,7 +31,7 @@ pub enum Limit {
     Lines,
     /// It has more than `MOST_BYTES` bytes.
     Bytes,
-    /// It has more than `MOST_WIDE` lines that are answered by all peers.
+    /// It has more than `MOST_WIDE` lines that are answered by all peers: dumps, ticks and ends of the device.
     Wide,
 }
 

@@ -37,7 +37,7 @@ ApartIn t = (Apart (serials_of t.live) (serials_of t.dying) t.made) × (Apart (k
 
 -- ---- who may join
 
-one : (x : ℕ) → times x (x ∷ []) ≡ 1
+pub one : (x : ℕ) → times x (x ∷ []) ≡ 1
 one x = rw (eq-eqb x x refl) refl
 
 -- Who stands nowhere isn't found.
@@ -94,7 +94,7 @@ makes here there now rest new made after apart (inr grown) more = rw grown.1 (ne
 -- ---- steps
 
 -- The keys of some peers have the serials in their slots.
-keys_serials : (ps : List Peer) → key_serials (keys_of ps) ≡ slot_serials ps
+pub keys_serials : (ps : List Peer) → key_serials (keys_of ps) ≡ slot_serials ps
 keys_serials [] = refl
 keys_serials (p ∷ ps) = map-append (λ (k : Key). k.serial) (keys_in p.slots) (keys_of ps) ∙ ap (λ ns. peer_keys p ++ ns) (keys_serials ps)
 

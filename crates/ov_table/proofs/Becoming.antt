@@ -54,6 +54,7 @@ freed_peers x t (act.RxLook id key_id from) may = omega arith
 freed_peers x t (act.Sent peer inner outer ping) may = omega arith
 freed_peers x t (act.Settle peer from k inner outer) may = omega arith
 freed_peers x t (act.Spend peer key) may = omega arith
+freed_peers x t (act.KeepLook peer) may = omega arith
 freed_peers x t (act.Released peer) may = any_stands (λ (p : Peer). p.serial) x peer t.dying may
 freed_peers x t (act.KeyReleased key) may = omega arith
 
@@ -64,6 +65,7 @@ freed_keys x t (act.RxLook id key_id from) may = omega arith
 freed_keys x t (act.Sent peer inner outer ping) may = omega arith
 freed_keys x t (act.Settle peer from k inner outer) may = omega arith
 freed_keys x t (act.Spend peer key) may = omega arith
+freed_keys x t (act.KeepLook peer) may = omega arith
 freed_keys x t (act.Released peer) may = omega arith
 freed_keys x t (act.KeyReleased key) may = any_stands (λ (k : Key). k.serial) x key t.retired may
 

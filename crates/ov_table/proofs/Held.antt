@@ -10,8 +10,8 @@ use Rattle.ov_model.specs.declared.ident.PeerId.{PeerId}
 use Rattle.ov_model.specs.declared.ident.KeyId.{KeyId}
 use Rattle.ov_model.specs.declared.reply.HoldView.{HoldView}
 use Rattle.ov_model.specs.declared.reply.Reply.TheVariants as reply
-use Rattle.ov_model.specs.Tables.{Material, Peer, Key, Table, keys_in, by_key_id, by_vpn, has_vpn, by_remote, has_id, by_id}
-use Rattle.ov_model.specs.Step.{Outcome, has_key, where_found, hold_of, key_found, tx_look, rx_look}
+use Rattle.ov_model.specs.Tables.{Material, Peer, Key, Table, keys_in, by_key_id, by_vpn, has_vpn, by_remote, has_id, by_id, has_serial, by_serial}
+use Rattle.ov_model.specs.Step.{Outcome, has_key, where_found, hold_of, key_found, replied, tx_look, rx_look, keep_look}
 use Rattle.ov_table.specs.Pairs.{key_of_peer, live_key, retired_key, material_if_any, pair_in}
 
 given : (o : Option Key) (b : Option Material) → is_some o ≡ true → is_some (option_or (material_if_any o) b) ≡ true
@@ -74,6 +74,20 @@ look_held t now test (Some p) key h is has said = key_found_held t now test p (k
 pub tx_held : (t : Table) (now : ℕ) (a : Addr) (h : HoldView) → HasPair (tx_look t now a) h
 unfolding tx_look
 tx_held t now a h = look_held t now (has_vpn a) (by_vpn a t.live) (λ p. p.slots.primary) h refl primary_there
+
+pub keep_held : (t : Table) (now peer : ℕ) (h : HoldView) → HasPair (keep_look t now peer) h
+unfolding keep_look
+keep_held t now peer h = found_held (by_serial peer t.live) refl
+  where
+    key_held : (p : Peer) (k : Option Key) → by_serial peer t.live ≡ Some p → p.slots.primary ≡ k → HasPair (where_found t now reply.Skip k (λ x. replied t now (reply.Hold (hold_of p x)))) h
+    key_held p None found at said = absurd (let e : reply.Skip ≡ reply.Hold h = said in cc)
+    key_held p (Some k) found at said =
+        let same : k.serial ≡ h.key = (let e : reply.Hold (hold_of p k) ≡ reply.Hold h = said in let v : hold_of p k ≡ h = cc in ap (λ v. v.key) v) in
+        subst (λ n. is_some (pair_in (record t { moment = now }) n) ≡ true) same (held_pair t now k.serial (has_serial peer) p found (primary_there p k at))
+
+    found_held : (o : Option Peer) → by_serial peer t.live ≡ o → HasPair (where_found t now reply.Skip o (λ p. where_found t now reply.Skip p.slots.primary (λ k. replied t now (reply.Hold (hold_of p k))))) h
+    found_held None found said = absurd (let e : reply.Skip ≡ reply.Hold h = said in cc)
+    found_held (Some p) found said = key_held p p.slots.primary found refl said
 
 pub rx_held : (t : Table) (now : ℕ) (id : PeerId) (key_id : KeyId) (from : Transport) (h : HoldView) → HasPair (rx_look t now id key_id from) h
 unfolding rx_look

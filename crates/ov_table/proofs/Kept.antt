@@ -1,6 +1,6 @@
 -- What holds of each key that a table has, holds of each that it has after a step, but for a new key.
 use Rattle.std.proofs.Common.{ℕ, ◌≡◌, ◌+◌, List, [], ◌∷◌, refl, Bool, true, false, if◌then◌else◌, ◌==◌}
-use Rattle.std.specs.Prelude.{Option, Some, None}
+use Rattle.std.specs.Prelude.{Option, Some, None, not}
 use Rattle.std.specs.List.{AllByRecursion}
 use Rattle.ov_base.specs.declared.address.Transport.{Transport}
 use Rattle.ov_model.specs.declared.ident.PeerId.{PeerId}
@@ -16,11 +16,12 @@ use Rattle.ov_model.specs.declared.reply.Reply.{Reply}
 use Rattle.ov_model.specs.declared.reply.Reply.TheVariants as reply
 use Rattle.ov_model.specs.declared.reply.Errno.{Errno}
 use Rattle.ov_model.specs.declared.reply.Errno.TheVariants.{NoEntry}
-use Rattle.ov_model.specs.Tables.{Peer, Key, Slots, Table, no_keys, in_slot, with_slot, swapped, key_if_any, keys_in, keys_of, is_key, without_key, has_id, has_serial, by_key, by_id, by_serial, by_vpn, by_key_id}
+use Rattle.ov_model.specs.Tables.{Peer, Key, Slots, Table, no_keys, in_slot, with_slot, swapped, key_if_any, keys_in, keys_of, is_key, without_key, has_id, has_serial, by_key, by_id, by_serial, by_vpn, by_key_id, by_rising_id}
 use Rattle.ov_model.specs.Step as model
-use Rattle.ov_model.specs.Step.{peer_new, peer_set, peer_get, peer_dump, remove_peer, key_new, key_get, key_swap, key_del, tx_look, rx_look, sent, settle, spend, released, key_released}
+use Rattle.ov_model.specs.Step.{peer_new, peer_set, peer_get, peer_dump, remove_peer, key_new, key_get, key_swap, key_del, tx_look, rx_look, sent, settle, spend, released, key_released, tick, down, keep_look}
 use Rattle.ov_model.proofs.Firsts.{all_found, all_without, all_changed}
 use Rattle.ov_model.proofs.Lanes.{all_append}
+use Rattle.ov_model.proofs.Parts.{rising_all, filter_all}
 use Rattle.ov_model.proofs.Shapes.{Kept, settle_kept}
 use Rattle.ov_model.proofs.StepCases.{unless_has, found_has, changed_has}
 
@@ -159,6 +160,30 @@ del_keeps P n t now id slot h =
     (λ p found. slots_keep P n t now id (with_slot slot None) (key_if_any (in_slot slot p.slots)) (emptied_holds P slot)
     (one_all P (in_slot slot p.slots) (in_slot_holds P slot p.slots (all_found Q (has_id id) t.live p found h.live))) h)
 
+-- The removal of some peers.
+removals_keep : (P : Key → Type 0) (n : ℕ) (t : Table) (now : ℕ) (reason : Reason) (gone left : List Peer) (r : Reply) → AllByRecursion (λ q. SlotsHold P q.slots) gone → AllByRecursion (λ q. SlotsHold P q.slots) left → Holds P n t → Keeps P n (model.removals t now reason gone left r)
+removals_keep P n t now reason gone left r went stay h = record { holds = record { count = h.count; live = stay; retired = all_append P t.retired (keys_of gone) h.retired (all_keys P gone went) } }
+  where
+    all_keys : (P : Key → Type 0) (ps : List Peer) → AllByRecursion (λ q. SlotsHold P q.slots) ps → AllByRecursion P (keys_of ps)
+    all_keys P [] all = tt
+    all_keys P (p ∷ ps) all = all_append P (keys_in p.slots) (keys_of ps) (slots_all P p.slots all.0) (all_keys P ps all.1)
+
+tick_keeps : (P : Key → Type 0) (n : ℕ) (t : Table) (now : ℕ) → Holds P n t → Keeps P n (tick t now)
+unfolding tick
+tick_keeps P n t now h =
+    let Q : Peer → Type 0 = λ q. SlotsHold P q.slots in
+    removals_keep P n t now _ (model.expired_of now t.live) _ _ (filter_all Q (model.is_expired now) (by_rising_id t.live) (rising_all Q t.live h.live)) (filter_all Q (λ p. not (model.is_expired now p)) t.live h.live) h
+
+down_keeps : (P : Key → Type 0) (n : ℕ) (t : Table) (now : ℕ) → Holds P n t → Keeps P n (down t now)
+unfolding down
+down_keeps P n t now h = removals_keep P n t now _ (by_rising_id t.live) [] _ (rising_all (λ q. SlotsHold P q.slots) t.live h.live) tt h
+
+keep_look_keeps : (P : Key → Type 0) (n : ℕ) (t : Table) (now peer : ℕ) → Holds P n t → Keeps P n (keep_look t now peer)
+unfolding keep_look
+keep_look_keeps P n t now peer h =
+    found_has (Keeps P n) t now _ (by_serial peer t.live) _ (plain P n t now reply.Skip h)
+    (λ q found. found_has (Keeps P n) t now _ q.slots.primary _ (plain P n t now reply.Skip h) (λ k has. plain P n t now _ h))
+
 -- ---- every act
 
 -- Whether an act is anything but a key-new.
@@ -177,6 +202,8 @@ act_keeps P n t now (act.Do (command.KeyNew c)) new h = absurd new
 act_keeps P n t now (act.Do (command.KeyGet id slot)) new h = found_has (Keeps P n) t now _ (by_id id t.live) _ (plain P n t now _ h) (λ p found. found_has (Keeps P n) t now _ (in_slot slot p.slots) _ (plain P n t now _ h) (λ k has. plain P n t now _ h))
 act_keeps P n t now (act.Do (command.KeySwap id)) new h = swap_keeps P n t now id h
 act_keeps P n t now (act.Do (command.KeyDel id slot)) new h = del_keeps P n t now id slot h
+act_keeps P n t now (act.Do command.Tick) new h = tick_keeps P n t now h
+act_keeps P n t now (act.Do command.Down) new h = down_keeps P n t now h
 act_keeps P n t now (act.TxLook a) new h = look_keeps P n t now (by_vpn a t.live) (λ p. p.slots.primary) h
 act_keeps P n t now (act.RxLook id key_id from) new h = look_keeps P n t now (model.rx_peer id from t.live) (λ p. by_key_id key_id p.slots) h
 act_keeps P n t now (act.Sent peer inner outer ping) new h =
@@ -184,6 +211,7 @@ act_keeps P n t now (act.Sent peer inner outer ping) new h =
 act_keeps P n t now (act.Settle peer from k inner outer) new h =
     changed_keeps P n t now peer _ _ (reply.Settled (model.settled_as peer k t.live)) (λ p. settle_kept now t.live from (model.settled_as peer k t.live) inner outer p) h
 act_keeps P n t now (act.Spend peer key) new h = spend_keeps P n t now peer key h
+act_keeps P n t now (act.KeepLook peer) new h = keep_look_keeps P n t now peer h
 act_keeps P n t now (act.Released serial) new h = record { holds = record { count = h.count; live = h.live; retired = h.retired } }
 act_keeps P n t now (act.KeyReleased serial) new h =
     record { holds = record { count = h.count; live = h.live; retired = all_without P (model.has_key_serial serial) t.retired h.retired } }

@@ -12,3 +12,7 @@ pub mod Kept
 pub mod Outcomes
 -- A step keeps the record told: the journal stays a run, with its last table and its notes.
 pub mod Told
+-- Peers that are taken out of the live ones by their serials: which they are, and which are left.
+pub mod Picking
+-- What one removed peer, and the rest of them, make of the lists.
+pub mod Removed

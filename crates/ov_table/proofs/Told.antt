@@ -4,7 +4,7 @@ use Rattle.ov_model.specs.declared.place.Place.{Place}
 use Rattle.ov_model.specs.declared.act.Call.{Call}
 use Rattle.ov_model.specs.declared.entry.Entry.{Entry}
 use Rattle.ov_model.specs.Tables.{empty_table}
-use Rattle.ov_model.specs.Step.{step, May}
+use Rattle.ov_model.specs.Step.{Outcome, step, May}
 use Rattle.ov_model.specs.Runs.{Follows, table_after, notes_after, last_table, notes_of, numbered}
 use Rattle.ov_model.proofs.Going.{table_after-append, notes_after-append, follows_more}
 use Rattle.ov_table.specs.Recorded.{Recorded, entry_of, stepped, IsTold}
@@ -25,3 +25,8 @@ told_step r place call may told =
 
 pub told_after : (r : Recorded) (place : Place) (call : Call) (s : Recorded) → s ≡ stepped r place call → May r.now call → IsTold r → IsTold s
 told_after r place call s is may told = subst IsTold (sym is) (told_step r place call may told)
+
+-- A step whose outcome is known otherwise.
+pub swept : (r : Recorded) (place : Place) (call : Call) (o : Outcome) → step r.now call ≡ o
+    → ◌≡◌ {A = Recorded} (record { now = o.after; journal = r.journal ++ record { place = place; call = call; reply = o.reply } ∷ []; notes = r.notes ++ numbered (length r.journal) o.notes; taken = o.taken }) (stepped r place call)
+swept r place call o is = sym (λ i. record { now = (is i).after; journal = r.journal ++ record { place = place; call = call; reply = (is i).reply } ∷ []; notes = r.notes ++ numbered (length r.journal) (is i).notes; taken = (is i).taken })

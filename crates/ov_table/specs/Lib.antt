@@ -3,3 +3,4 @@ pub mod Recorded
 pub mod Cells
 pub mod Outcomes
 pub mod Pairs
+pub mod Picked

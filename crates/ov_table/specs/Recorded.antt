@@ -3,6 +3,7 @@ use Rattle.std.specs.Prelude.{ℕ, ◌+◌, ◌≡◌, List, [], ◌∷◌, ◌+
 use Rattle.ov_model.specs.declared.place.Place.{Place}
 use Rattle.ov_model.specs.declared.act.Act.{Act}
 use Rattle.ov_model.specs.declared.act.Act.TheVariants as act
+use Rattle.ov_model.specs.declared.command.Command.TheVariants as command
 use Rattle.ov_model.specs.declared.act.Call.{Call}
 use Rattle.ov_model.specs.declared.entry.Entry.{Entry}
 use Rattle.ov_model.specs.declared.note.Note.{Note}
@@ -44,6 +45,12 @@ abbrev pub is_release : Act → Bool
 is_release (act.Released serial) = true
 is_release (act.KeyReleased serial) = true
 is_release _ = false
+
+-- Whether an act may remove many peers at once.
+abbrev pub is_sweep : Act → Bool
+is_sweep (act.Do command.Tick) = true
+is_sweep (act.Do command.Down) = true
+is_sweep _ = false
 
 -- How many releases may come before another step: of the peers, and of the keys that are out of their slots.
 abbrev pub unreleased : Table → ℕ

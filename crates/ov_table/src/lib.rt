@@ -5,6 +5,7 @@ mod find;
 mod locked;
 mod outcome;
 mod peers;
+mod removal;
 mod retired;
 mod room;
 pub mod table;

@@ -2,17 +2,18 @@
 //! true that at most 4,096 peers and 65,536 keys were ever made, that the lists hold no more peers than
 //! were made, and that no serial of a peer or of a key stands twice.
 
-ghost use Rattle.std.specs.Prelude.{◌≡◌, ◌≤◌, ◌+◌, ◌||◌, max, false, IfOk, IfSome, OnOk, OnErr, option_copied};
+ghost use Rattle.std.specs.Prelude.{◌≡◌, ◌≤◌, ◌+◌, ◌*◌, ◌||◌, max, false, IfOk, IfSome, OnOk, OnErr, option_copied};
 ghost use Rattle.ov_model.specs.Step as model;
 ghost use Rattle.ov_model.specs.Tables.{empty_table};
 ghost use Rattle.ov_table.specs.Outcomes.{outcome};
 ghost use Rattle.ov_table.specs.Pairs.{pair_in};
-ghost use Rattle.ov_table.specs.Recorded.{unreleased, is_release, first_waiting};
+ghost use Rattle.ov_table.specs.Recorded.{unreleased, is_release, is_sweep, first_waiting};
 
 mod commands;
 mod looks;
 mod releases;
 mod standing;
+mod ticks;
 mod uses;
 
 use crate::find;
@@ -77,12 +78,19 @@ impl Peers {
         }
     }
 
-    /// Room for the entry of one step with all the releases that may follow it: a step takes at most two keys out of
-    /// their slots, and no more peers are there than were made. `None` is a number past the greatest usize.
+    /// Room for the entry of one step with all the releases that may follow it, where it removes one peer at most: it
+    /// takes at most two keys out of their slots, and no more peers are there than were made. `None` is a number past the greatest usize.
     pub fn room(&self) -> Option<usize>
         ensures { IfSome result (λ n. unreleased self.now + 3 ≤ n) }
     {
         self.retired.len().checked_add(self.made as usize + 3)
+    }
+
+    /// Room for the entry of a step that removes so many peers, with all the releases that may follow it.
+    pub fn room_for(&self, removed: u32) -> Option<usize>
+        ensures { IfSome result (λ n. unreleased self.now + 2 * removed + 3 ≤ n) }
+    {
+        self.room()?.checked_add(2 * removed as usize)
     }
 
     /// The greater of the table's moment and `at`.
@@ -97,7 +105,7 @@ impl Peers {
         ensures { result ≡ model.may_act self.now act.now }
     {
         match *act {
-            Act::Do(_) | Act::TxLook(_) | Act::RxLook { .. } => true,
+            Act::Do(_) | Act::TxLook(_) | Act::RxLook { .. } | Act::KeepLook(_) => true,
             Act::Sent { peer, .. } | Act::Settle { peer, .. } => self.is_there(peer),
             Act::Spend { peer, key } => {
                 self.is_there(peer) && (self.live.has_key(key) || self.retired.has(key))
@@ -138,9 +146,10 @@ impl Peers {
         Some(&key.pair)
     }
 
-    /// One act that isn't a release, at the moment `now`.
+    /// One act that is neither a release nor of many peers, at the moment `now`.
     pub fn act(&mut self, now: u32, act: &Act) -> Result<Outcome, Memory>
-        requires { is_release act.now ≡ false }
+        requires release { is_release act.now ≡ false }
+        requires sweep { is_sweep act.now ≡ false }
         ensures ok { IfOk result (λ o. outcome self.new o ≡ model.act_step self.old now act.now) }
         ensures kept { IfOk result (λ o. o.kept ≡ o.reply) }
         ensures more { OnOk result (unreleased self.new ≤ unreleased self.old + 2) }
@@ -164,6 +173,7 @@ impl Peers {
                 outer,
             } => self.settle(now, peer, from, kind, inner, outer),
             Act::Spend { peer, key } => self.spend(now, peer, key),
+            Act::KeepLook(peer) => Ok(self.keep_look(now, peer)),
             Act::Released(_) | Act::KeyReleased(_) => unreachable!(),
         }
     }

@@ -31,6 +31,8 @@ pub fn retire_all(retired: &mut Gone<KeyRec>, slots: &mut Slots) -> (Option<u32>
     ensures slots { slots.new ≡ no_keys }
     ensures items { retired.new.items ≡ retired.old.items ++ keys_in slots.old }
     ensures taken { serial_list result.0 ++ serial_list result.1 ≡ key_serials (keys_in slots.old) }
+    ensures room { retired.old.room ≤ retired.new.room + 2 }
+    ensures serials { retired.new.serials ≡ retired.old.serials }
 {
     let first = retire(retired, slots.take(Slot::Primary));
     let second = retire(retired, slots.take(Slot::Secondary));

@@ -32,6 +32,20 @@ impl Index {
         Some(peer)
     }
 
+    /// Takes the live peer with a serial out. It takes no memory.
+    pub fn take(&mut self, serial: u32) -> Option<Peer>
+        ensures was { result ≡ tables.by_serial serial self.old.live }
+        ensures now { self.new ≡ record self.old {
+          live = tables.without_first (tables.has_serial serial) self.old.live;
+        } }
+    {
+        let Some(peer) = take_at(&mut self.peers, serial as usize) else {
+            return None;
+        };
+        take_all(&mut self.owners, &peer);
+        Some(peer)
+    }
+
     /// Counts a sent datagram at the live peer with a serial: whether there is one.
     pub fn sent(&mut self, serial: u32, now: u32, inner: u32, outer: u32, ping: bool) -> bool
         ensures there { result ≡ model.is_there serial self.old.live }

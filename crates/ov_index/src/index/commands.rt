@@ -1,16 +1,19 @@
 //! What commands change of a live peer where it stands, and what they show of all.
 
-ghost use Rattle.std.specs.Prelude.{◌≡◌, false, None, length, map, IfOk, OnOk, OnErr};
+ghost use Rattle.std.specs.Prelude.{◌≡◌, false, None, length, map, filter, IfOk, OnOk, OnErr};
 ghost use Rattle.std.specs.List.{list_any};
 ghost use Rattle.ov_model.specs.Step as model;
 ghost use Rattle.ov_model.specs.Tables as tables;
 ghost use Rattle.ov_index.specs.Index.{slot_of};
+ghost use Rattle.ov_index.specs.Ticks.{facts_of, is_asked};
 
 use super::Index;
 use crate::name::Name;
 use crate::names::{make_room, owner_of, put_all, take_all};
 use crate::places::{put_at, take_at, views_of};
+use crate::ticks::{count_in, facts_in, ranked_in};
 use ov_base::Memory;
+use ov_keepalive::TickFacts;
 use ov_keys::KeyRec;
 use ov_model::{Attrs, PeerId, PeerView, Slot};
 use std::alloc::Global;
@@ -90,5 +93,23 @@ impl Index {
         let mut views = views_of(alloc, &self.peers)?;
         views.sort_unstable_by_key(|view| view.id.get());
         Ok(views)
+    }
+
+    /// What the keepalive rule asks of the live peers, by rising id: of those that are expired or quiet at `now`, and of
+    /// each where no moment is given. The others are passed over before the sort. `Err` is want of memory.
+    pub fn facts(&self, alloc: Global, now: Option<u32>) -> Result<Vec<TickFacts>, Memory>
+        ensures { IfOk result (λ facts. facts.items ≡
+            map facts_of (filter (is_asked now) (tables.by_rising_id self.now.live))) }
+    {
+        let mut ranked = ranked_in(alloc, &self.peers, now)?;
+        ranked.sort_unstable_by_key(|one| one.id);
+        facts_in(alloc, &ranked)
+    }
+
+    /// How many peers are live. It looks at each place.
+    pub fn len(&self) -> usize
+        ensures { result ≡ length self.now.live }
+    {
+        count_in(&self.peers)
     }
 }

@@ -1,10 +1,10 @@
 // A second desk, over plain lists: one peer, one key, and the events of its line as they came.
 
-ghost use Rattle.std.specs.Prelude.{◌≡◌, ◌<◌, ◌++◌, [], IfOk, vec_len, nat_eq};
+ghost use Rattle.std.specs.Prelude.{◌≡◌, ◌<◌, ◌≤◌, ◌++◌, [], true, length, IfOk, vec_len, nat_eq};
 ghost use Rattle.std.specs.List.{IsDistinct};
 ghost use Rattle.ov_model.specs.Path.{removed};
 ghost use Rattle.std.specs.Vec.{vec_capacity};
-ghost use Rattle.ov_path.specs.Desks.{NoHold, IsNew, held_after, owed_if, IsReplyOf, HasMaterial};
+ghost use Rattle.ov_path.specs.Desks.{NoHold, IsNew, held_after, owed_if, is_ticked, IsReplyOf, HasMaterial};
 ghost use Rattle.ov_path.specs.Plain.{Joined, one_key, listed, shown_of};
 
 use super::told::{Kind, Past, Told};
@@ -51,7 +51,9 @@ impl Hold {
     fn step(&mut self, act: &Act, reply: &Reply)
         ensures { self.new ≡ held_after self.old act.now reply.now }
     {
-        let (Act::TxLook(_) | Act::RxLook { .. }, Reply::Hold(view)) = (act, reply) else {
+        let (Act::TxLook(_) | Act::RxLook { .. } | Act::KeepLook(_), Reply::Hold(view)) = (
+            act, reply,
+        ) else {
             return;
         };
         self.view = Some(*view);
@@ -73,6 +75,11 @@ pub struct Plain {
     last: bool,
     // What the counter gives next.
     next: u64,
+    // What a tick finds: the peer that it removes, and those that are due.
+    expired: Option<u32>,
+    due: Vec<u32>,
+    // The due peer that takes no ping.
+    absent: Option<u32>,
     accepted: Vec<u32>,
     past: Past,
     hold: Hold,
@@ -120,6 +127,9 @@ impl Plain {
             hop: None,
             last: false,
             next,
+            expired: None,
+            due: Vec::new(alloc),
+            absent: None,
             accepted: Vec::new(alloc),
             past: Past::new(alloc),
             hold: Hold::none(),
@@ -131,6 +141,21 @@ impl Plain {
     /// Every address has this next hop from here on.
     pub fn route(&mut self, hop: Addr) {
         self.hop = Some(hop);
+    }
+
+    /// The next ticks find these peers due.
+    pub fn finds_due(&mut self, due: Vec<u32>) {
+        self.due = due;
+    }
+
+    /// The next ticks remove this peer.
+    pub fn expires(&mut self, peer: u32) {
+        self.expired = Some(peer);
+    }
+
+    /// This due peer takes no ping.
+    pub fn has_no_key(&mut self, peer: u32) {
+        self.absent = Some(peer);
     }
 
     /// The give-backs are the last ones from here on.
@@ -156,7 +181,7 @@ impl Plain {
 
     /// Takes one step of the table, whose reply fits it. A removal has the one peer's serial, and every other
     /// command is done.
-    #[tactic(auto, using(crate::proofs::Plain::few_differ))]
+    #[tactic(auto, using(crate::proofs::Plain::few_differ, crate::proofs::Plain::has_key))]
     fn decide(&self, act: &Act) -> Result<Reply, Memory>
         ensures fits { IfOk result (λ r. IsReplyOf act.now r) }
         ensures apart { IfOk result (λ r. IsDistinct nat_eq (removed r)) }
@@ -168,7 +193,17 @@ impl Plain {
                 serials.push(self.peer.peer)?;
                 Ok(Reply::Removed(ListOf::of_vec(serials)))
             }
+            Act::Do(Command::Tick) => self.ticked(),
             Act::Do(_) => Ok(Reply::Done),
+            Act::KeepLook(peer) => {
+                if self.absent == Some(*peer) {
+                    return Ok(Reply::Skip);
+                }
+                Ok(Reply::Hold(HoldView {
+                    peer: *peer,
+                    ..self.peer
+                }))
+            }
             Act::TxLook(addr) => {
                 if addr.is(self.vpn) {
                     return Ok(Reply::Hold(self.peer));
@@ -190,6 +225,31 @@ impl Plain {
             Act::Released(peer) => Ok(Reply::Released(*peer)),
             Act::KeyReleased(key) => Ok(Reply::KeyReleased(*key)),
         }
+    }
+
+    /// The reply of a tick.
+    fn ticked(&self) -> Result<Reply, Memory>
+        ensures ticked { IfOk result (λ r. is_ticked r ≡ true) }
+        ensures few { IfOk result (λ r. length (removed r) ≤ 1) }
+    {
+        let expired = self.removes()?;
+        let due = Vec::from_slice(self.alloc, self.due.as_slice())?;
+        Ok(Reply::Ticked {
+            expired,
+            due: ListOf::of_vec(due),
+        })
+    }
+
+    /// The peer that a tick removes, if any.
+    fn removes(&self) -> Result<ListOf<u32>, Memory>
+        ensures few { IfOk result (λ serials. length serials ≤ 1) }
+    {
+        let mut serials = Vec::new(self.alloc);
+        let Some(serial) = self.expired else {
+            return Ok(ListOf::of_vec(serials));
+        };
+        serials.push(serial)?;
+        Ok(ListOf::of_vec(serials))
     }
 
     fn settled(&self, kind: InnerKind) -> Settled {
@@ -313,6 +373,15 @@ fn twin(alloc: Global, reply: &Reply) -> Result<Reply, Memory>
         Reply::Hold(view) => Reply::Hold(*view),
         Reply::NoPeer => Reply::NoPeer,
         Reply::NoKey => Reply::NoKey,
+        Reply::Skip => Reply::Skip,
+        Reply::Ticked { expired, due } => {
+            let expired = Vec::from_slice(alloc, expired.as_slice())?;
+            let due = Vec::from_slice(alloc, due.as_slice())?;
+            return Ok(Reply::Ticked {
+                expired: ListOf::of_vec(expired),
+                due: ListOf::of_vec(due),
+            });
+        }
         Reply::Settled(settled) => Reply::Settled(*settled),
         Reply::Killed => Reply::Killed,
         Reply::AlreadyGone => Reply::AlreadyGone,
@@ -323,7 +392,7 @@ fn twin(alloc: Global, reply: &Reply) -> Result<Reply, Memory>
 }
 
 /// What is owed after a step: the first peer that a command removed, where nothing was owed before.
-#[tactic(auto, using(crate::proofs::Plain::nothing_joins, crate::proofs::Plain::first_joins))]
+#[tactic(auto, using(crate::proofs::Plain::nothing_joins, crate::proofs::Plain::first_joins, crate::proofs::Plain::first_expires))]
 fn joined(owing: Option<Owed>, act: &Act, reply: &Reply) -> Option<Owed>
     ensures { Joined act.now reply.now owing result }
 {
@@ -333,12 +402,16 @@ fn joined(owing: Option<Owed>, act: &Act, reply: &Reply) -> Option<Owed>
     let Act::Do(_) = act else {
         return None;
     };
-    let Reply::Removed(serials) = reply else {
-        return None;
-    };
-    match serials.as_slice().split_first() {
-        Some((serial, _)) => Some(Owed::Peer(*serial)),
-        None => None,
+    match reply {
+        Reply::Removed(serials) => match serials.as_slice().split_first() {
+            Some((serial, _)) => Some(Owed::Peer(*serial)),
+            None => None,
+        },
+        Reply::Ticked { expired, .. } => match expired.as_slice().split_first() {
+            Some((serial, _)) => Some(Owed::Peer(*serial)),
+            None => None,
+        },
+        _ => None,
     }
 }
 

@@ -21,12 +21,15 @@ use std::test::Fail;
 
 /// An event by its kind, and what tells one of a kind from another.
 #[derive(Debug, Drop, PartialEq, Eq)]
-enum Seen {
+pub enum Seen {
     Do(Command),
     TxLook(Addr),
     RxLook,
+    KeepLook(u32),
     Sent,
-    Settle,
+    Ping,
+    // With the transport that the datagram came from.
+    Settle(Option<Transport>),
     Spend,
     Released(u32),
     KeyReleased(u32),
@@ -42,8 +45,10 @@ fn as_seen(told: &Told) -> Seen {
             Act::Do(command) => Seen::Do(*command),
             Act::TxLook(addr) => Seen::TxLook(*addr),
             Act::RxLook { .. } => Seen::RxLook,
-            Act::Sent { .. } => Seen::Sent,
-            Act::Settle { .. } => Seen::Settle,
+            Act::KeepLook(peer) => Seen::KeepLook(*peer),
+            Act::Sent { ping: false, .. } => Seen::Sent,
+            Act::Sent { ping: true, .. } => Seen::Ping,
+            Act::Settle { from, .. } => Seen::Settle(*from),
             Act::Spend { .. } => Seen::Spend,
             Act::Released(peer) => Seen::Released(*peer),
             Act::KeyReleased(key) => Seen::KeyReleased(*key),
@@ -56,7 +61,7 @@ fn as_seen(told: &Told) -> Seen {
 }
 
 /// The events of the line in order.
-fn all_seen(alloc: Global, desk: &Plain) -> Result<Vec<Seen>, Memory> {
+pub fn all_seen(alloc: Global, desk: &Plain) -> Result<Vec<Seen>, Memory> {
     let mut all = Vec::new(alloc);
     for told in desk.events() {
         all.push(as_seen(told))?;
@@ -68,7 +73,7 @@ fn all_seen(alloc: Global, desk: &Plain) -> Result<Vec<Seen>, Memory> {
 const VPN: Addr = Addr::V4([10, 8, 0, 5]);
 
 /// The peer's remote.
-const REMOTE: Transport = Transport {
+pub const REMOTE: Transport = Transport {
     addr: Addr::V4([192, 0, 2, 1]),
     port: 1194,
 };
@@ -79,7 +84,7 @@ const ASTRAY: [u8; 20] = [
 ];
 
 /// A desk whose counter gives `next` first.
-fn desk_at(rt: &impl Abort, alloc: Global, next: u64) -> Plain {
+pub fn desk_at(rt: &impl Abort, alloc: Global, next: u64) -> Plain {
     let (hold, pair) = held().expect(rt, "ids in range");
     Plain::new(alloc, hold, VPN, pair, next)
 }
@@ -151,14 +156,28 @@ fn turn(alloc: Global, desk: &mut Plain, walk: &mut Walk, line: &Line) -> Result
     Ok(progress)
 }
 
-/// Runs a line to its answer; None where twelve turns didn't reach it.
-fn run(alloc: Global, desk: &mut Plain, line: &Line) -> Result<Option<Answer>, Memory>
+/// Runs a line to its answer; None where twenty turns didn't reach it.
+pub fn run(alloc: Global, desk: &mut Plain, line: &Line) -> Result<Option<Answer>, Memory>
     requires { Fits line.now.deed }
 {
     desk.begin();
     let mut walk = Walk::new(Place { lane: 0, line: 0 });
-    for _turn in 0..12 {
-        match turn(alloc, desk, &mut walk, line)? {
+    run_on(alloc, desk, &mut walk, line)
+}
+
+/// Makes the turns of a line that has one to come. The walk is lent, so that no turn has it to drop.
+fn run_on(
+    alloc: Global,
+    desk: &mut Plain,
+    walk: &mut Walk,
+    line: &Line,
+) -> Result<Option<Answer>, Memory>
+    requires at { Stands (hop_or desk.old.hop) line.now (shown_of desk.old) walk.old }
+    requires open { IsOpen walk.old.stage (shown_of desk.old).owing }
+    requires fits { Fits line.now.deed }
+{
+    for _turn in 0..20 {
+        match turn(alloc, desk, walk, line)? {
             Progress::More => {}
             Progress::Answered(answer) => return Ok(Some(answer)),
         }
@@ -233,7 +252,7 @@ fn a_datagram_is_delivered_once(rt: HostRuntime) -> Result<(), Fail> {
     let events = [
         Seen::RxLook,
         Seen::Replay(1, Verdict::Accept),
-        Seen::Settle,
+        Seen::Settle(Some(REMOTE)),
         Seen::Key(Given::More),
         Seen::Peer(Given::More),
     ];
@@ -316,7 +335,7 @@ fn a_source_is_settled_by_its_next_hop(rt: HostRuntime) -> Result<(), Fail> {
     let events = [
         Seen::RxLook,
         Seen::Replay(1, Verdict::Accept),
-        Seen::Settle,
+        Seen::Settle(Some(REMOTE)),
         Seen::Key(Given::More),
         Seen::Peer(Given::More),
     ];

@@ -1,11 +1,12 @@
 //! The commands of the netlink family.
 
-ghost use Rattle.std.specs.Prelude.{◌≡◌, ◌≤◌, ◌+◌, List, [], ◌∷◌, Some, true, is_some, IfOk, OnOk, OnErr};
+ghost use Rattle.std.specs.Prelude.{◌≡◌, ◌≤◌, ◌+◌, List, [], ◌∷◌, Some, true, false, is_some, IfOk, OnOk, OnErr};
+ghost use Rattle.ov_model.specs.declared.act.Act.TheVariants as act;
 ghost use Rattle.ov_model.specs.declared.reply.Reply.TheVariants as reply;
 ghost use Rattle.ov_model.specs.Step as model;
 ghost use Rattle.ov_model.specs.Tables.{Peer, by_id, has_id, without_first};
 ghost use Rattle.ov_table.specs.Outcomes.{outcome};
-ghost use Rattle.ov_table.specs.Recorded.{unreleased};
+ghost use Rattle.ov_table.specs.Recorded.{unreleased, is_sweep};
 
 use super::Peers;
 use crate::outcome::Outcome;
@@ -16,8 +17,9 @@ use ov_model::limits::{MOST_KEYS, MOST_PEERS};
 use ov_model::{Attrs, Command, Errno, KeyConf, NoteBody, PeerId, Reason, Reply};
 
 impl Peers {
-    /// One command at the moment `now`.
+    /// One command that isn't of many peers, at the moment `now`.
     pub fn command(&mut self, now: u32, command: &Command) -> Result<Outcome, Memory>
+        requires { is_sweep (act.Do command.now) ≡ false }
         ensures ok { IfOk result (λ o. outcome self.new o ≡
             model.command_step self.old now command.now) }
         ensures kept { IfOk result (λ o. o.kept ≡ o.reply) }
@@ -34,6 +36,7 @@ impl Peers {
             Command::KeyGet(id, slot) => Ok(self.key_get(now, id, slot)),
             Command::KeySwap(id) => Ok(self.key_swap(now, id)),
             Command::KeyDel(id, slot) => self.key_del(now, id, slot),
+            Command::Tick | Command::Down => unreachable!(),
         }
     }
 

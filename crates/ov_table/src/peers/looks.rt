@@ -51,6 +51,24 @@ impl Peers {
         let hold = hold_of(peer, key);
         Outcome::plain(Reply::Hold(hold), Reply::Hold(hold))
     }
+
+    /// Whether a peer that was due still takes a ping: it is live, and its primary slot holds a key.
+    #[tactic(auto, unfolding(ov_model::specs::Step::keep_look))]
+    pub fn keep_look(&mut self, now: u32, peer: u32) -> Outcome
+        ensures value { outcome self.new result ≡ model.keep_look self.old now peer }
+        ensures kept { result.kept ≡ result.reply }
+        ensures same { unreleased self.new ≡ unreleased self.old }
+    {
+        self.moment = now;
+        let Some(found) = self.live.by_serial(peer) else {
+            return Outcome::plain(Reply::Skip, Reply::Skip);
+        };
+        let Some(key) = found.slots.primary() else {
+            return Outcome::plain(Reply::Skip, Reply::Skip);
+        };
+        let hold = hold_of(found, key);
+        Outcome::plain(Reply::Hold(hold), Reply::Hold(hold))
+    }
 }
 
 /// A hold on a peer and its key, with the peer's remote at this step.

@@ -19,12 +19,16 @@ rx_part d (deed.Netlink m) h is = absurd (cc h)
 rx_part d (deed.Tx packet) h is = absurd (cc h)
 rx_part d (deed.Rx from datagram) h is = ((from, datagram), is)
 rx_part d (deed.Lost id why) h is = absurd (cc h)
+rx_part d deed.Tick h is = absurd (cc h)
+rx_part d deed.Down h is = absurd (cc h)
 
 lost_part : (d : Data) (asked : Deed) → deed_form asked ≡ form.Lost → IsDeed d asked → (lost : PeerId × Reason) × IsLoser d lost.0 lost.1
 lost_part d (deed.Netlink m) h is = absurd (cc h)
 lost_part d (deed.Tx packet) h is = absurd (cc h)
 lost_part d (deed.Rx from datagram) h is = absurd (cc h)
 lost_part d (deed.Lost id why) h is = ((id, why), is)
+lost_part d deed.Tick h is = absurd (cc h)
+lost_part d deed.Down h is = absurd (cc h)
 
 pub returns-in_err-from-in-Rx : goal.returns-in_err-from-in-Rx
 returns-in_err-from-in-Rx c = reads_not c.from_residual-in_err-from-in-Rx.result c.in_err-from-in-Rx.field-0.0 (λ (receipt : Transport × List ℕ). IsRx (view c.args.value.now) receipt.0 receipt.1) _ c.from_residual-in_err-from-in-Rx.ensures c.in_err-from-in-Rx.ensures

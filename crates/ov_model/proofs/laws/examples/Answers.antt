@@ -1,5 +1,5 @@
 -- Each is computed.
-use Rattle.ov_model.proofs.Examples.{window_examples, datagram_examples, inner_examples, id_examples, message_examples, new_examples, set_examples, slot_examples, dump_examples, look_examples, via_examples, route_example}
+use Rattle.ov_model.proofs.Examples.{window_examples, datagram_examples, inner_examples, id_examples, message_examples, new_examples, set_examples, slot_examples, dump_examples, look_examples, tick_examples, down_examples, keep_examples, float_examples, via_examples, route_example}
 use Rattle.ov_model.proofs.laws.examples.Goals as goal
 
 pub returns-clause-window : goal.returns-clause-window
@@ -31,6 +31,18 @@ returns-clause-dump c = dump_examples
 
 pub returns-clause-looks : goal.returns-clause-looks
 returns-clause-looks c = look_examples
+
+pub returns-clause-tick : goal.returns-clause-tick
+returns-clause-tick c = tick_examples
+
+pub returns-clause-down : goal.returns-clause-down
+returns-clause-down c = down_examples
+
+pub returns-clause-keep : goal.returns-clause-keep
+returns-clause-keep c = keep_examples
+
+pub returns-clause-float : goal.returns-clause-float
+returns-clause-float c = float_examples
 
 pub returns-clause-via : goal.returns-clause-via
 returns-clause-via c = via_examples

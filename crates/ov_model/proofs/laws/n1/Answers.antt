@@ -1,5 +1,5 @@
 -- The nonce law: by the rows of the lines, and by the counts of packet ids.
-use Rattle.ov_model.proofs.SealedLaw.{sealed_under}
+use Rattle.ov_model.proofs.SealedLaw.{sealed_under, pinged_for}
 use Rattle.ov_model.proofs.NonceLaw.{nonces_differ}
 use Rattle.ov_model.proofs.laws.n1.Goals as goal
 
@@ -8,3 +8,6 @@ returns-clause-sealed c = sealed_under
 
 pub returns-clause-differ : goal.returns-clause-differ
 returns-clause-differ c = nonces_differ
+
+pub returns-clause-pings : goal.returns-clause-pings
+returns-clause-pings c = pinged_for

@@ -1,6 +1,7 @@
 -- The pieces follow one another, and make the line.
 use Rattle.std.proofs.Common.{◌∙◌, ◌++◌, ap, sym}
-use Rattle.ov_report.proofs.Lines.{joined, answer_pieces}
+use Rattle.ov_text.proofs.Lines.{joined}
+use Rattle.ov_report.proofs.Lines.{answer_pieces}
 use Rattle.ov_report.proofs.answer.append_answer.Goals as goal
 
 pub returns : goal.returns

@@ -1,6 +1,7 @@
 -- The pieces follow one another, and make the answer's text.
 use Rattle.std.proofs.Common.{◌∙◌, ◌++◌, ap, sym}
-use Rattle.ov_report.proofs.Lines.{joined, delivered_pieces}
+use Rattle.ov_text.proofs.Lines.{joined}
+use Rattle.ov_report.proofs.Lines.{delivered_pieces}
 use Rattle.ov_report.proofs.answer.append_delivered.Goals as goal
 
 pub returns : goal.returns

@@ -1,6 +1,7 @@
 -- The pieces follow one another, and make the answer's text.
 use Rattle.std.proofs.Common.{◌∙◌, ◌++◌, ap, sym}
-use Rattle.ov_report.proofs.Lines.{joined, dropped_pieces}
+use Rattle.ov_text.proofs.Lines.{joined}
+use Rattle.ov_report.proofs.Lines.{dropped_pieces}
 use Rattle.ov_report.proofs.answer.append_dropped.Goals as goal
 
 pub returns : goal.returns

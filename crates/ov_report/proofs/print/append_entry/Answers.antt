@@ -1,6 +1,7 @@
 -- The pieces follow one another, and make the entry's text.
 use Rattle.std.proofs.Common.{◌∙◌, ◌++◌, ap, sym}
-use Rattle.ov_report.proofs.Lines.{joined, entry_pieces}
+use Rattle.ov_text.proofs.Lines.{joined}
+use Rattle.ov_report.proofs.Lines.{entry_pieces}
 use Rattle.ov_report.proofs.print.append_entry.Goals as goal
 
 pub returns : goal.returns

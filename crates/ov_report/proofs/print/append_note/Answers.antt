@@ -2,7 +2,7 @@
 use Rattle.std.proofs.Common.{◌∙◌, ◌++◌, [], ◌∷◌, ap}
 use Rattle.serde_json.specs.Written.{compact_text}
 use Rattle.ov_report.proofs.NoFloat.{note_no_float}
-use Rattle.ov_report.proofs.Lines.{joined}
+use Rattle.ov_text.proofs.Lines.{joined}
 use Rattle.ov_report.proofs.print.append_note.Goals as goal
 
 pub append_value-requires : goal.append_value-requires

@@ -1,6 +1,7 @@
 -- The pieces follow one another, and make the step's text.
 use Rattle.std.proofs.Common.{◌∙◌, ◌++◌, ap, sym}
-use Rattle.ov_report.proofs.Lines.{joined, replay_pieces}
+use Rattle.ov_text.proofs.Lines.{joined}
+use Rattle.ov_report.proofs.Lines.{replay_pieces}
 use Rattle.ov_report.proofs.print.append_replay.Goals as goal
 
 pub returns : goal.returns

@@ -3,7 +3,7 @@ use Rattle.std.proofs.Common.{◌∙◌, ◌++◌, [], ◌∷◌, ap}
 use Rattle.std.proofs.lemmas.Result.{IfOk-weaker, IfErr-weaker}
 use Rattle.serde_json.specs.Written.{compact_text}
 use Rattle.ov_report.proofs.Passing.{handed_on, no_memory, line_some, refilled, refilled_stop}
-use Rattle.ov_report.proofs.Lines.{joined}
+use Rattle.ov_text.proofs.Lines.{joined}
 use Rattle.ov_report.proofs.Texts.{summary_no_float}
 use Rattle.ov_report.proofs.text.print_summary.Goals as goal
 

@@ -15,11 +15,11 @@ ghost-peer_back g a = g.via
 abbrev pub ghost-release : goal.ghost-release
 ghost-release g a = g.via
 
-abbrev pub ghost-put_to_use : goal.ghost-put_to_use
-ghost-put_to_use g a = g.via
+abbrev pub ghost-use_hold : goal.ghost-use_hold
+ghost-use_hold g a = g.via
 
-abbrev pub ghost-send : goal.ghost-send
-ghost-send g a = g.via
+abbrev pub ghost-use_id : goal.ghost-use_id
+ghost-use_id g a = g.via
 
-abbrev pub ghost-spend : goal.ghost-spend
-ghost-spend g a = g.via
+abbrev pub ghost-tick : goal.ghost-tick
+ghost-tick g a = g.via

@@ -6,7 +6,7 @@ use Rattle.ov_table.proofs.table.Table.act.Goals as goal
 pub invariant_of-self-2 : goal.invariant_of-self-2
 invariant_of-self-2 c = (
   told_after
-      (record { now = c.self.inside.peers; journal = c.self.inside.journal.items; notes = c.self.inside.notes.items; taken = c.self.inside.taken.items })
+      (record { now = c.self.inside.peers; journal = c.self.inside.journal.items; notes = c.self.inside.notes.notes; taken = c.self.inside.taken.items })
       c.args.place
       c.args.call.now
       _

@@ -6,7 +6,7 @@ use Rattle.ov_table.proofs.table.Table.release.Goals as goal
 pub invariant_of-self : goal.invariant_of-self
 invariant_of-self c = (
   told_after
-      (record { now = c.self.inside.peers; journal = c.self.inside.journal.items; notes = c.self.inside.notes.items; taken = c.self.inside.taken.items })
+      (record { now = c.self.inside.peers; journal = c.self.inside.journal.items; notes = c.self.inside.notes.notes; taken = c.self.inside.taken.items })
       c.args.place
       (record { at = c.args.at; act = act.Released c.args.serial })
       _

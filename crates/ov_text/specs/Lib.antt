@@ -1,0 +1,4 @@
+pub mod Pieces
+pub mod Views
+pub mod Replies
+pub mod Sealed

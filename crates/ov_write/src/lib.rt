@@ -1,0 +1,10 @@
+//! The canonical text of a line, which says the line again.
+#![tactic(auto)]
+
+#[cfg(test)]
+mod forms_tests;
+pub mod member;
+pub mod object;
+pub mod text;
+
+pub use text::line_bytes;
