@@ -9,7 +9,7 @@ use Rattle.ov_base.specs.Sums.{between, count_of}
 use Rattle.ov_base.proofs.Sums.{between_out}
 use Rattle.ov_draw.specs.Drawer.{Counters, Drawer, times, IsEnded}
 use Rattle.ov_clients.specs.Ids.{HasDrawn}
-use Rattle.ov_clients.proofs.Intervals.{length-interval}
+use Rattle.ov_draw.proofs.Intervals.{length-interval}
 
 -- draws of the key 0 are counted as their ids
 times-ids : (n : ℕ) (l : List ℕ) → times 0 n (map (λ m. (0, m)) l) ≡ count_of n l

@@ -1,5 +1,3 @@
--- Lists in which each number of an interval stands once, and no other number: how long they are.
-pub mod Intervals
 -- From what each of two threads has drawn, and from what the one seat that is left knows, to the ids of
 -- both.
 pub mod Ids

@@ -5,7 +5,7 @@ use Rattle.ov_clients.specs.declared.journal.Entry.{Entry}
 use Rattle.ov_base.specs.Sums.{count_of}
 use Rattle.ov_turn.specs.Lists.{times, IsWhole}
 use Rattle.ov_clients.specs.Entries.{InOrder}
-use Rattle.ov_clients.proofs.Intervals.{length-interval}
+use Rattle.ov_draw.proofs.Intervals.{length-interval}
 
 abbrev pub entry : ℕ → ℕ → Entry
 entry t k = record { thread = t; number = k }

@@ -17,8 +17,9 @@ use Rattle.ov_path.specs.Desks.{Holding, NoHold, Both, PeerLeft, HoldsKey, IsLoo
 use Rattle.ov_replay.specs.History.{History}
 use Rattle.ov_core.specs.Worlds.{World, Seat, Makes, after_draw, after_replay, after_key, after_peer, next_of, next_after, drawn_of, holds_key, holds_peer, key_holds, peer_holds, given_where, without_key, without_hold, key_given, peer_given}
 use Rattle.ov_core.specs.Sounds.{WorldSound}
-use Rattle.ov_core.specs.Pasts.{gave}
-use Rattle.ov_core.specs.Seats.{Sitting, Seated, seen, world_of, seat_of, shown_of, histories, via_in, is_held, has_key, has_peer, owing_if, owing_list, empty_seat, may_owe, Kept, last_if, given_by, GivesBack, hold_without, given_back, after_drawn, after_judged, after_gave}
+use Rattle.ov_past.specs.Pasts.{gave}
+use Rattle.ov_core.specs.Seats.{Sitting, Seated, seen, world_of, seat_of, shown_of, histories, via_in, is_held, has_key, has_peer, owing_if, owing_list, empty_seat, may_owe, Kept, last_if, given_by, GivesBack, given_back, after_drawn, after_judged, after_gave}
+use Rattle.ov_past.specs.Holds.{hold_without}
 use Rattle.ov_core.proofs.Seats.{length-slice_set, set_case, set_own, read_own, map_set, set_set}
 use Rattle.ov_core.proofs.Leaving.{EventDone, below, seen_at, own_spare, quiet_done, one_owed, owing_if_is}
 use Rattle.ov_core.proofs.Keeping.{keeps_draw, draws_below, keeps_replay, keeps_key, keeps_peer}

@@ -91,11 +91,11 @@ all_rise script first report parts lane = elim (cases_lt lane (length report.lan
 
 -- ---- the packet ids
 
-times_in : (n key : ℕ) (logs : List LaneLog) → times n (ids_in logs key) ≡ total (λ log. times n (ids_of log.answers key)) logs
+pub times_in : (n key : ℕ) (logs : List LaneLog) → times n (ids_in logs key) ≡ total (λ log. times n (ids_of log.answers key)) logs
 times_in n key [] = refl
 times_in n key (log ∷ logs) = times-append n (ids_of log.answers key) (ids_in logs key) ∙ ap (λ m. times n (ids_of log.answers key) + m) (times_in n key logs)
 
-length_in : (key : ℕ) (logs : List LaneLog) → length (ids_in logs key) ≡ total (λ log. length (ids_of log.answers key)) logs
+pub length_in : (key : ℕ) (logs : List LaneLog) → length (ids_in logs key) ≡ total (λ log. length (ids_of log.answers key)) logs
 length_in key [] = refl
 length_in key (log ∷ logs) = length-append (ids_of log.answers key) (ids_in logs key) ∙ ap (λ m. length (ids_of log.answers key) + m) (length_in key logs)
 

@@ -14,7 +14,7 @@ use Rattle.ov_model.specs.declared.replay.ReplayEntry.{ReplayEntry}
 use Rattle.ov_model.specs.Tables.{Material, empty_table}
 use Rattle.ov_model.specs.Step.{step}
 use Rattle.ov_model.specs.Runs.{last_table}
-use Rattle.ov_model.specs.Events.{Event, Stepped, Judged, Drew, GaveKey, GavePeer, Step, judgement_of, steps_of, steps_in, judgements_in}
+use Rattle.ov_model.specs.Events.{Event, Stepped, Judged, Step, judgement_of, steps_of, steps_in, judgements_in}
 use Rattle.ov_model.specs.Keys.{key_of, key_by}
 use Rattle.ov_model.specs.Lanes.{LaneRuns, judged_in}
 use Rattle.ov_model.specs.Own.{mine, mine_judged, mine_shards}
@@ -23,27 +23,12 @@ use Rattle.ov_model.proofs.Going.{steps_after-append}
 use Rattle.ov_model.proofs.Lanes.{Knows, own_steps, own_judged, line_done, lane_knows, rise_judged}
 use Rattle.ov_model.proofs.Mine.{mine_own, mine_other, shards_own, shards_other}
 use Rattle.ov_table.specs.Recorded.{Recorded, stepped, entry_of}
+use Rattle.ov_path.proofs.Seeing.{steps_in-append, judgements_in-append}
 use Rattle.ov_core.specs.Worlds.{Seat}
 use Rattle.ov_core.specs.Sessions.{Lane, place_of}
 use Rattle.ov_core.specs.Sounds.{LaneSound}
 
--- ---- events and journals that go on
-
-pub steps_in-append : (es fs : List Event) → steps_in (es ++ fs) ≡ steps_in es ++ steps_in fs
-steps_in-append [] fs = refl
-steps_in-append (Stepped s ∷ es) fs = ap (λ ss. s ∷ ss) (steps_in-append es fs)
-steps_in-append (Judged j ∷ es) fs = steps_in-append es fs
-steps_in-append (Drew key d ∷ es) fs = steps_in-append es fs
-steps_in-append (GaveKey key g ∷ es) fs = steps_in-append es fs
-steps_in-append (GavePeer peer g ∷ es) fs = steps_in-append es fs
-
-pub judgements_in-append : (es fs : List Event) → judgements_in (es ++ fs) ≡ judgements_in es ++ judgements_in fs
-judgements_in-append [] fs = refl
-judgements_in-append (Stepped s ∷ es) fs = judgements_in-append es fs
-judgements_in-append (Judged j ∷ es) fs = ap (λ js. j ∷ js) (judgements_in-append es fs)
-judgements_in-append (Drew key d ∷ es) fs = judgements_in-append es fs
-judgements_in-append (GaveKey key g ∷ es) fs = judgements_in-append es fs
-judgements_in-append (GavePeer peer g ∷ es) fs = judgements_in-append es fs
+-- ---- journals that go on
 
 either_key : (o p q : Option Material) → option_or (option_or o p) q ≡ option_or o (option_or p q)
 either_key None p q = refl

@@ -1,7 +1,6 @@
 pub mod Worlds
 pub mod Sessions
 pub mod Sounds
-pub mod Pasts
 pub mod Seats
 pub mod Ready
 pub mod Courses

@@ -24,9 +24,8 @@ use Rattle.ov_model.specs.Via.{via_of}
 use Rattle.ov_path.specs.Desks.{View, Holding, NoHold, Both, PeerLeft, HoldsKey, LeftPeer, held_after, peer_left, stepped_as, judged_at, after_first, owed_if}
 use Rattle.ov_replay.specs.History.{History}
 use Rattle.ov_table.specs.Recorded.{Recorded, no_steps, stepped}
-use Rattle.ov_core.specs.declared.holding.Hold.{Hold}
-use Rattle.ov_core.specs.declared.holding.Hold.TheVariants as hold
-use Rattle.ov_core.specs.Pasts.{gave}
+use Rattle.ov_past.specs.Pasts.{gave}
+use Rattle.ov_past.specs.Holds.{hold_without}
 use Rattle.ov_core.specs.Worlds.{Seat, World, seen_from, Happened as HappenedThere, lane_count, drawn_of, next_after}
 use Rattle.ov_core.specs.Sounds.{WorldSound}
 
@@ -42,12 +41,6 @@ pub record Sitting : Type 0 where
 -- Nothing was done yet.
 abbrev pub empty_seat : Sitting
 empty_seat = record { events = []; hold = NoHold; owing = []; spare = 0 }
-
--- What is held, as a line sees it.
-abbrev pub holding : Hold → Holding
-holding hold.Nothing = NoHold
-holding (hold.Both h) = Both h
-holding (hold.PeerLeft h) = PeerLeft h
 
 -- Whether the key is held.
 abbrev pub has_key : ℕ → Holding → Bool
@@ -247,11 +240,6 @@ given_by t seats o = last_if (is_leaving t o) (is_held seats o)
 abbrev pub GivesBack : Holding → Owed → Type 0
 GivesBack h (owed.Key k) = HoldsKey h k
 GivesBack h (owed.Peer p) = LeftPeer h p
-
--- What is held on once it was given back: after the key the peer, and after the peer nothing.
-abbrev pub hold_without : Owed → Holding → Holding
-hold_without (owed.Key k) h = peer_left h
-hold_without (owed.Peer p) h = NoHold
 
 -- What a give-back of the lane that has its turn answers.
 abbrev pub given_back : Seated → Owed → Given

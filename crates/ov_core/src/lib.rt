@@ -3,12 +3,8 @@
 
 mod counters;
 mod course;
-mod holding;
-mod past;
 mod seat;
 mod session;
-#[cfg(test)]
-mod tests;
 mod world;
 
 pub use session::{run_schedule, run_serially};

@@ -2,14 +2,14 @@
 //! may come to owe before a command and before a look-up, so that no release wants memory.
 
 ghost use Rattle.std.specs.Prelude.{◌≡◌, ◌<◌, ◌-◌, [], ◌∷◌, ◌++◌, OnOk, OnErr, IsSome};
-ghost use Rattle.ov_core.specs.Pasts.{event_of, gave};
+ghost use Rattle.ov_past.specs.Pasts.{event_of, gave};
+ghost use Rattle.ov_past.specs.Holds.{hold_without};
 ghost use Rattle.ov_core.specs.Seats as spec;
 ghost use Rattle.ov_path.specs.Desks.{held_after, stepped_as, first_owed, after_first};
 
-use crate::holding::Hold;
-use crate::past::{Happening, Past};
 use ov_base::Memory;
 use ov_model::{Act, Call, Given, Owed, Place, Reply};
+use ov_past::{Happening, Hold, Past};
 use ov_table::Table;
 use std::alloc::Global;
 use std::collections::VecDeque;
@@ -27,13 +27,14 @@ pub struct Seat {
 impl Model for Seat {
     ghost use Rattle.std.specs.Prelude.{◌≤◌, ◌+◌};
     ghost use Rattle.std.specs.VecDeque.{deque_len, deque_capacity};
+    ghost use Rattle.ov_past.specs.Holds.{holding};
     ghost use Rattle.ov_core.specs.Seats as seats;
 
     ghost Value = { seats.Sitting };
 
     ghost view = { λ s. record {
       events = s.past;
-      hold = seats.holding s.hold;
+      hold = holding s.hold;
       owing = s.owing.items;
       spare = s.spare;
     } };
@@ -132,7 +133,7 @@ impl Seat {
     /// The key or the peer is given back: only the peer is held on, or nothing.
     pub fn let_go(&mut self, owed: Owed)
         ensures { self.new ≡ record self.old {
-          hold = spec.hold_without owed self.old.hold;
+          hold = hold_without owed self.old.hold;
         } }
     {
         self.hold = self.hold.without(owed);

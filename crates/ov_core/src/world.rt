@@ -8,13 +8,12 @@ ghost use Rattle.std.specs.List.{AllByRecursion, list_any};
 ghost use Rattle.ov_model.specs.declared.hold.Owed.TheVariants as owed;
 ghost use Rattle.ov_model.specs.Path.{removed};
 ghost use Rattle.ov_model.specs.Replay.{ShardJudges};
-ghost use Rattle.ov_core.specs.Pasts.{gave};
+ghost use Rattle.ov_past.specs.Pasts.{gave};
 ghost use Rattle.ov_core.specs.Seats.{Seated, Kept, GivesBack, Happened, shown_of, new_seated, histories};
 ghost use Rattle.ov_core.specs.Seats as spec;
 ghost use Rattle.ov_path.specs.Desks.{NoHold, Did};
 
 use crate::counters::{count_key, drawn, following};
-use crate::past::{Happening, Judged};
 use crate::seat::Seat;
 use ov_base::{Addr, ListOf, Memory};
 use ov_keys::KeyPair;
@@ -22,6 +21,7 @@ use ov_model::{
     Act, Call, Command, Drawn, Entry, Given, Note, Owed, Place, ReplayEntry, Reply, Route, Verdict,
     via_of,
 };
+use ov_past::{Happening, Judged};
 use ov_path::Desk;
 use ov_replay::Shard;
 use ov_table::Table;
@@ -131,11 +131,16 @@ impl World {
 }
 
 impl Desk for World {
+    ghost use Rattle.std.specs.Prelude.{⊤};
     ghost use Rattle.ov_core.specs.Seats.{shown_of, Happened};
 
     ghost view = { λ d. shown_of d };
 
     ghost does = { λ d event e. Happened d event e };
+
+    ghost keeps = { λ d e. ⊤ };
+
+    ghost keeps_itself = { λ d. tt };
 
     fn table(&mut self, place: Place, call: &Call) -> Result<Reply, Memory> {
         self.next.reserve(1)?;

@@ -18,3 +18,5 @@ pub mod Listed
 pub mod Returned
 -- What is asked of the live peers, with and without the id by which it is put in order.
 pub mod Asked
+-- How many stand at the places, as one joins, leaves or comes back.
+pub mod Counted

@@ -12,6 +12,11 @@ pub record Indexed : Type 0 where
   pub made : ℕ
   pub keys_made : ℕ
 
+-- The places of the live peers, each with a peer or a hole, and for how many more places room is reserved.
+pub record Placed : Type 0 where
+  pub items : List (Option Peer)
+  pub room : ℕ
+
 -- No peers and no keys.
 abbrev pub no_peers : Indexed
 no_peers = record { live = []; made = 0; keys_made = 0 }

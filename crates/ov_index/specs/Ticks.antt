@@ -1,5 +1,5 @@
 -- What a tick, and a down, ask of the live peers.
-use Rattle.std.specs.Prelude.{ℕ, Bool, true, ◌||◌, Option, Some, None, is_some}
+use Rattle.std.specs.Prelude.{ℕ, ◌-◌, Bool, true, ◌||◌, ◌&&◌, nat_lt, nat_le, Option, Some, None, is_some}
 use Rattle.ov_keepalive.specs.declared.tick.TickFacts.{TickFacts}
 use Rattle.ov_keepalive.specs.Rule.{is_expired, is_quiet}
 use Rattle.ov_model.specs.Tables.{Peer}
@@ -17,3 +17,7 @@ ranked_of p = record { id = p.id.number; facts = facts_of p }
 abbrev pub is_asked : Option ℕ → Peer → Bool
 is_asked None p = true
 is_asked (Some now) p = is_expired now (facts_of p) || is_quiet now (facts_of p)
+
+-- Whether a keepalive time is not 0 and has gone by at a moment since an earlier one.
+abbrev pub has_gone_by : ℕ → ℕ → ℕ → Bool
+has_gone_by time since now = nat_lt 0 time && nat_le time (now - since)

@@ -12,7 +12,8 @@ mod commands;
 mod looks;
 
 use crate::name::Name;
-use crate::names::{Owners, make_room, put_all, take_all};
+use crate::names::{Owners, make_room, put_all};
+use crate::peers::Places;
 use ov_base::{Memory, Transport};
 use ov_model::{Attrs, PeerId};
 use ov_peer::Peer;
@@ -24,20 +25,20 @@ use std::marker::Model;
 /// in a list that keeps a hole for each peer that is gone: a removal from the middle moves nobody.
 #[derive(Drop)]
 pub struct Index {
-    peers: Vec<Option<Peer>>,
+    peers: Places,
     owners: Owners,
     homes: Vec<u32>,
 }
 
 impl Model for Index {
-    ghost use Rattle.std.specs.Prelude.{vec_len};
+    ghost use Rattle.std.specs.Prelude.{length, vec_len};
     ghost use Rattle.std.specs.HashMap.{get};
     ghost use Rattle.ov_index.specs.Names.{same_name};
     ghost use Rattle.ov_index.specs.Index.{Indexed, IsIndex, present};
 
     ghost Value = { Indexed };
 
-    ghost view = { λ t. record { live = present t.peers.items; made = vec_len t.peers; keys_made = vec_len t.homes } };
+    ghost view = { λ t. record { live = present t.peers.items; made = length t.peers.items; keys_made = vec_len t.homes } };
 
     ghost invariant = { λ t. IsIndex (get same_name t.owners) t.homes.items t.peers.items };
 }
@@ -48,7 +49,7 @@ impl Index {
         ensures { result ≡ no_peers }
     {
         Index {
-            peers: Vec::new(alloc),
+            peers: Places::new(alloc),
             owners: HashMap::new(alloc),
             homes: Vec::new(alloc),
         }
@@ -74,12 +75,10 @@ impl Index {
         ensures err { OnErr result (self.new ≡ self.old) }
     {
         make_room(&mut self.owners)?;
-        self.peers.reserve(1)?;
+        self.peers.reserve()?;
         let peer = Peer::new(serial, now, attrs, remote);
         put_all(&mut self.owners, &peer);
-        match self.peers.push(Some(peer)) {
-            Ok(()) => Ok(()),
-            Err(_) => unreachable!(),
-        }
+        self.peers.push(peer);
+        Ok(())
     }
 }

@@ -5,12 +5,10 @@ mod gone;
 mod index;
 mod name;
 mod names;
+mod peers;
 mod places;
 mod ticks;
 
 pub use gone::{Gone, Numbered};
 pub use index::Index;
 pub use ov_peer::Peer;
-
-#[cfg(test)]
-mod tests;

@@ -1,7 +1,8 @@
 //! What a tick, and a down, ask of the live peers: those that they are about, by rising id. The others are passed over
-//! before anything is put in order, so that a tick that finds nothing to do takes no memory.
+//! by their times alone, before their facts are made or anything is put in order, so that a tick that finds nothing to do
+//! takes no memory and reads few words of each.
 
-ghost use Rattle.std.specs.Prelude.{◌≡◌, if◌then◌else◌, Some, None, IfOk, length, map, filter};
+ghost use Rattle.std.specs.Prelude.{◌≡◌, IfOk, map, filter};
 ghost use Rattle.ov_index.specs.Index.{present};
 ghost use Rattle.ov_index.specs.Ticks as specs;
 
@@ -31,15 +32,27 @@ fn facts_of(peer: &Peer) -> TickFacts
     }
 }
 
-/// A peer's facts, where it is expired or quiet at `now`, and those of each peer where no moment is given.
-fn asked_of(peer: &Peer, now: Option<u32>) -> Option<TickFacts>
-    ensures { result ≡ (if specs.is_asked now peer.now then Some (specs.facts_of peer.now) else None) }
+/// Whether a peer is expired or quiet at `now`; where no moment is given, each peer is asked for. It reads the peer's
+/// times alone, and its key only where the interval has gone by.
+#[tactic(auto, using(crate::proofs::Asked::quiet_is))]
+fn is_asked(peer: &Peer, now: Option<u32>) -> bool
+    ensures { result ≡ specs.is_asked now peer.now }
 {
-    let facts = facts_of(peer);
-    match now {
-        Some(now) if !facts.is_expired(now) && !facts.is_quiet(now) => None,
-        _ => Some(facts),
-    }
+    let Some(now) = now else {
+        return true;
+    };
+    has_gone_by(peer.keepalive.timeout, peer.last_received, now)
+        || has_gone_by(peer.keepalive.interval, peer.last_sent, now)
+            && peer.slots.primary().is_some()
+}
+
+/// Whether a keepalive time is set and has gone by at `now`, from the moment `since` on. A moment later than `now`
+/// counts as `now`. The sum has 64 bits, where it can't wrap: it takes fewer instructions than the time gone by.
+#[tactic(auto, using(crate::proofs::Asked::gone_by_is))]
+fn has_gone_by(time: u32, since: u32, now: u32) -> bool
+    ensures { result ≡ specs.has_gone_by time since now }
+{
+    time > 0 && u64::from(since) + u64::from(time) <= u64::from(now)
 }
 
 /// The facts of those who stand at the places and are asked for, in the order of the places. `Err` is want of memory.
@@ -54,10 +67,10 @@ pub fn ranked_in(
     let mut ranked = Vec::new(alloc);
     for slot in peers {
         if let Some(peer) = slot {
-            if let Some(facts) = asked_of(peer, now) {
+            if is_asked(peer, now) {
                 ranked.push(Ranked {
                     id: peer.id.get(),
-                    facts,
+                    facts: facts_of(peer),
                 })?;
             }
         }
@@ -74,17 +87,4 @@ pub fn facts_in(alloc: Global, ranked: &[Ranked]) -> Result<Vec<TickFacts>, Memo
         facts.push(one.facts)?;
     }
     Ok(facts)
-}
-
-/// How many stand at the places.
-pub fn count_in(peers: &[Option<Peer>]) -> usize
-    ensures { result ≡ length (present peers.now) }
-{
-    let mut count = 0;
-    for slot in peers {
-        if slot.is_some() {
-            count += 1;
-        }
-    }
-    count
 }

@@ -28,7 +28,7 @@ use Rattle.ov_model.proofs.LifetimeLaw.{peers_stay_released, keys_stay_released}
 use Rattle.ov_table.specs.Cells.{cells, dying_cells}
 use Rattle.ov_lane.specs.Passes.{Passing, Shared, fresh, fresh_from, IsPassOf, IsFree, IsOrderly, AreFresh, AreAllPasses, IsPart, OneHistory, EachLeavesOnly, LastReleases}
 use Rattle.ov_lane.specs.Inner.{HasTaken}
-use Rattle.ov_lane.proofs.Stepping.{none_has}
+use Rattle.ov_ticket.proofs.Stepping.{none_has}
 use Rattle.ov_lane.proofs.Ordering.{all_weaker, all_both}
 
 -- ---- new passes

@@ -14,8 +14,9 @@ use Rattle.ov_model.specs.declared.reply.Reply.{Reply}
 use Rattle.ov_model.specs.Events.{releases}
 use Rattle.ov_model.specs.Runs.{last_table}
 use Rattle.ov_model.specs.Own.{RiseFrom, positions}
-use Rattle.ov_lane.specs.Within.{from_position, entries_of, made_by}
-use Rattle.ov_lane.specs.Passes.{IsOrderly, IsCalled, HasSeen}
+use Rattle.ov_ticket.specs.Within.{from_position, entries_of, made_by}
+use Rattle.ov_ticket.specs.Tickets.{IsCalled, HasSeen}
+use Rattle.ov_lane.specs.Passes.{IsOrderly}
 
 pub all_weaker : {X : Type 0} (P Q : X → Type 0) → ((x : X) → P x → Q x) → (xs : List X) → AllByRecursion P xs → AllByRecursion Q xs
 all_weaker P Q f [] all = tt

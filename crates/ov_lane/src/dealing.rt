@@ -6,8 +6,9 @@ ghost use mathlib.Core.List.{IsPrefix};
 ghost use Rattle.ov_base.specs.Sums.{count_of};
 ghost use Rattle.ov_turn.specs.Seats.{IsSeatOf, share_of, seen_of, own_of, holds_of, owes_of, name_of, name_of_seat, sight_of};
 ghost use Rattle.ov_model.specs.Own.{RiseFrom};
-ghost use Rattle.ov_lane.specs.Within.{HasRoom};
-ghost use Rattle.ov_lane.specs.Passes.{HasSeen, fresh, fresh_from, IsFree, IsOrderly};
+ghost use Rattle.ov_ticket.specs.Within.{HasRoom};
+ghost use Rattle.ov_ticket.specs.Tickets.{HasSeen};
+ghost use Rattle.ov_lane.specs.Passes.{fresh, fresh_from, IsFree, IsOrderly};
 ghost use Rattle.ov_lane.specs.Inner.{IsBlank, HasTaken};
 
 use crate::pass::Pass;
@@ -16,18 +17,19 @@ use ov_model::Owed;
 use ov_table::{CELLS, Table};
 use ov_turn::{LockSeat, TicketLock};
 use std::alloc::Global;
+use std::collections::VecDeque;
 
 // Room for every release that a pass may come to owe.
-pub(crate) fn room(alloc: Global) -> Result<Vec<Owed>, Memory>
+pub(crate) fn room(alloc: Global) -> Result<VecDeque<Owed>, Memory>
     ensures { IfOk result (λ owed. HasRoom owed) }
 {
-    let mut owed = Vec::new(alloc);
+    let mut owed = VecDeque::new(alloc);
     owed.reserve(CELLS as usize)?;
     Ok(owed)
 }
 
 /// Rooms for so many passes.
-pub(crate) fn rooms(alloc: Global, count: u32) -> Result<Vec<Vec<Owed>>, Memory>
+pub(crate) fn rooms(alloc: Global, count: u32) -> Result<Vec<VecDeque<Owed>>, Memory>
     ensures long { IfOk result (λ rooms. length rooms.items ≡ count) }
     ensures each { IfOk result (λ rooms. AllByRecursion HasRoom rooms.items) }
 {
@@ -39,7 +41,7 @@ pub(crate) fn rooms(alloc: Global, count: u32) -> Result<Vec<Vec<Owed>>, Memory>
 }
 
 /// A pass before its first line, with a seat.
-pub(crate) fn pass_of(number: u32, seat: LockSeat<Table>, owed: Vec<Owed>) -> Pass
+pub(crate) fn pass_of(number: u32, seat: LockSeat<Table>, owed: VecDeque<Owed>) -> Pass
     requires blank { (seen_of seat ≡ []) × (own_of seat ≡ []) × (holds_of seat ≡ []) × (owes_of seat ≡ []) }
     requires share { 2 ≤ share_of seat }
     requires room { HasRoom owed }
@@ -58,7 +60,7 @@ fn cut(
     lock: &TicketLock<Table>,
     seat: LockSeat<Table>,
     number: u32,
-    owed: Vec<Owed>,
+    owed: VecDeque<Owed>,
 ) -> (LockSeat<Table>, Pass)
     requires blank { IsBlank lock.now seat }
     requires share { 3 ≤ share_of seat }
@@ -77,7 +79,7 @@ pub(crate) fn deal(
     lock: &TicketLock<Table>,
     mut seat: LockSeat<Table>,
     count: u32,
-    mut rooms: Vec<Vec<Owed>>,
+    mut rooms: Vec<VecDeque<Owed>>,
     passes: &mut Vec<Pass>,
 ) -> LockSeat<Table>
     requires blank { IsBlank lock.now seat }

@@ -5,10 +5,6 @@
 mod dealing;
 mod ovpn;
 mod pass;
-#[cfg(test)]
-mod tests;
-mod ticket;
-mod within;
 
 pub use ovpn::{Closed, Ovpn};
 pub use pass::Pass;

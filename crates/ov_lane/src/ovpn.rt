@@ -4,10 +4,10 @@ ghost use Rattle.ov_lane.specs.Passes.{IsPassOf, IsFree, CallDone, OnlySaw, AreA
 
 use crate::dealing::{deal, gather, pass_of, room, rooms, show_both};
 use crate::pass::Pass;
-use crate::ticket::serve_once;
 use ov_base::{ListOf, Memory};
 use ov_model::{Command, Entry, Note, Place, Reply};
 use ov_table::{CELLS, Table};
+use ov_ticket::serve_once;
 use ov_turn::TicketLock;
 use std::alloc::Global;
 use std::marker::Model;

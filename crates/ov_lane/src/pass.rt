@@ -5,6 +5,7 @@ ghost use Rattle.std.specs.Prelude.{◌≡◌};
 use ov_model::Owed;
 use ov_table::Table;
 use ov_turn::LockSeat;
+use std::collections::VecDeque;
 use std::marker::Model;
 
 /// The right to make calls at a shared table, on one thread at a time. It knows what it has seen of the history
@@ -18,11 +19,11 @@ pub struct Pass {
     // It is out only while a call has it.
     pub(crate) seat: Option<LockSeat<Table>>,
     // The releases that a call owes, in order. It is empty between calls.
-    pub(crate) owed: Vec<Owed>,
+    pub(crate) owed: VecDeque<Owed>,
 }
 
 impl Model for Pass {
-    ghost use Rattle.ov_lane.specs.Within.{HasRoom};
+    ghost use Rattle.ov_ticket.specs.Within.{HasRoom};
     ghost use Rattle.ov_lane.specs.Passes.{Passing, IsOrderly};
     ghost use Rattle.ov_lane.specs.Inner.{sight_in, name_in, IsThere};
     ghost use Rattle.std.specs.Prelude.{◌≡◌};

@@ -1,8 +1,9 @@
 -- The compact text of a line that makes a key says the line.
-use Rattle.std.proofs.Common.{◌≡◌, ◌∙◌, ℕ, ◌<◌, ◌^◌, List, ◌∷◌, ◌++◌, codes, Some, None, refl, sym, ap, ap₂, subst, append_assoc, arith}
+use Rattle.std.proofs.Common.{◌≡◌, ◌∙◌, ℕ, ◌<◌, ◌≤◌, ◌^◌, List, ◌∷◌, ◌++◌, codes, Some, None, refl, sym, ap, ap₂, subst, append_assoc, arith}
 use Rattle.std.specs.Prelude.{decimal}
 use Rattle.std.specs.Str.{IsUtf8}
 use Rattle.json.specs.Print.{escape, quoted}
+use Rattle.json.specs.Tree.{depth}
 use Rattle.json.proofs.Printed.Utf8.{IsUtf8-are_ascii}
 use Rattle.serde_json.specs.Read.{read, of_json}
 use Rattle.serde_json.specs.Written.{outline, compact_text}
@@ -16,6 +17,7 @@ use Rattle.ov_model.specs.declared.netlink.NlKeyConf.{NlKeyConf}
 use Rattle.ov_model.specs.declared.netlink.NlOp.TheVariants as op
 use Rattle.ov_line.specs.Compact.{key_text, key_data, conf_data, dir_text, dir_data, IsDirText}
 use Rattle.ov_line.specs.Grammar.{Says, IsDir}
+use Rattle.ov_line.proofs.Widths.{fits_64, is_most}
 use Rattle.ov_line.proofs.PlainText.{IsPlain, text_utf8, reads_compact, string_text, escape_decoded}
 
 -- The text in its pieces, as they are taken off its front.
@@ -64,6 +66,10 @@ made : (at : ℕ) (opening opening_tail sealing sealing_tail : List ℕ) (key_id
 unfolding serde_json_on_literals key_data
 made at opening opening_tail sealing sealing_tail key_id peer lane a k p l = rw (number_of-decimal at a, number_of-decimal key_id k, number_of-decimal peer p, number_of-decimal lane l) refl
 
+shallow : (at : ℕ) (opening opening_tail sealing sealing_tail : List ℕ) (key_id peer lane : ℕ) → depth (outline (key_data at opening opening_tail sealing sealing_tail key_id peer lane)) ≤ 127
+unfolding serde_json_on_literals key_data
+shallow at opening opening_tail sealing sealing_tail key_id peer lane = omega arith
+
 plain_data : (at : ℕ) (opening opening_tail sealing sealing_tail : List ℕ) (key_id peer lane : ℕ) → at < 2 ^ 64 → key_id < 2 ^ 64 → peer < 2 ^ 64 → lane < 2 ^ 64
     → IsUtf8 opening → IsUtf8 opening_tail → IsUtf8 sealing → IsUtf8 sealing_tail → IsPlain (key_data at opening opening_tail sealing sealing_tail key_id peer lane)
 unfolding key_data
@@ -95,14 +101,14 @@ says_key bytes lanes at opening opening_tail sealing sealing_tail key_id peer la
     let cs = escape_decoded sealing hs.key hs.key_read in
     let cst = escape_decoded sealing_tail hs.tail hs.tail_read in
     let same : bytes ≡ compact_text (key_data at opening opening_tail sealing sealing_tail key_id peer lane) = text ∙ text_is at opening opening_tail sealing sealing_tail key_id peer lane co.0 cot.0 cs.0 cst.0 in
-    let plain = plain_data at opening opening_tail sealing sealing_tail key_id peer lane (omega arith) (omega arith) (omega arith) (omega arith) co.1 cot.1 cs.1 cst.1 in
+    let plain = plain_data at opening opening_tail sealing sealing_tail key_id peer lane (fits_64 at a) (fits_64 key_id k) (fits_64 peer p) (fits_64 lane l) co.1 cot.1 cs.1 cst.1 in
     record {
       utf8 = subst IsUtf8 (sym same) (text_utf8 (key_data at opening opening_tail sealing sealing_tail key_id peer lane) plain);
       value = key_data at opening opening_tail sealing sealing_tail key_id peer lane;
-      reads = ap read same ∙ reads_compact (key_data at opening opening_tail sealing sealing_tail key_id peer lane) plain (omega arith) (made at opening opening_tail sealing sealing_tail key_id peer lane (omega arith) (omega arith) (omega arith) (omega arith));
+      reads = ap read same ∙ reads_compact (key_data at opening opening_tail sealing sealing_tail key_id peer lane) plain (shallow at opening opening_tail sealing sealing_tail key_id peer lane) (made at opening opening_tail sealing sealing_tail key_id peer lane (fits_64 at a) (fits_64 key_id k) (fits_64 peer p) (fits_64 lane l));
       is_line = record {
-        at = (refl, omega arith);
-        lane = (refl, omega arith);
+        at = (refl, is_most at a);
+        lane = (refl, is_most lane l);
         below = below;
         word = refl;
         deed = record {
@@ -111,9 +117,9 @@ says_key bytes lanes at opening opening_tail sealing sealing_tail key_id peer la
           peer = tt;
           keyconf = record {
             only = refl;
-            peer_id = (refl, omega arith);
+            peer_id = (refl, is_most peer p);
             slot = refl;
-            key_id = (refl, omega arith);
+            key_id = (refl, is_most key_id k);
             cipher = refl;
             encrypt = dir_read sealing sealing_tail seals hs;
             decrypt = dir_read opening opening_tail opens ho;

@@ -1,5 +1,7 @@
 -- Facts on what objects have under names.
 pub mod Has
+-- Numbers of 32 bits: what the texts of lines ask of them.
+pub mod Widths
 -- Values of plain numbers and texts: their compact text reads as the value.
 pub mod PlainText
 -- The compact text of a line that sends a packet says the line.

@@ -1,9 +1,10 @@
 -- The compact text of a line that makes a peer says the line.
-use Rattle.std.proofs.Common.{◌≡◌, ◌∙◌, ℕ, ◌<◌, ◌^◌, List, ◌∷◌, ◌++◌, codes, Some, None, refl, sym, ap, subst, append_assoc, arith}
+use Rattle.std.proofs.Common.{◌≡◌, ◌∙◌, ℕ, ◌<◌, ◌≤◌, ◌^◌, List, ◌∷◌, ◌++◌, codes, Some, None, refl, sym, ap, subst, append_assoc, arith}
 use Rattle.std.specs.Prelude.{decimal}
 use Rattle.std.specs.Str.{IsUtf8}
 use Rattle.std.specs.Net.Grammar.{IsDotted}
 use Rattle.json.specs.Print.{escape, quoted}
+use Rattle.json.specs.Tree.{depth}
 use Rattle.json.proofs.Printed.Utf8.{IsUtf8-are_ascii}
 use Rattle.serde_json.specs.Read.{read, of_json}
 use Rattle.serde_json.specs.Written.{outline, compact_text}
@@ -14,6 +15,7 @@ use Rattle.ov_model.specs.declared.netlink.NlOp.TheVariants as op
 use Rattle.ov_model.specs.declared.netlink.NlPeer.{NlPeer}
 use Rattle.ov_line.specs.Compact.{new_text, new_data, peer_data}
 use Rattle.ov_line.specs.Grammar.{Says}
+use Rattle.ov_line.proofs.Widths.{fits_64, is_most}
 use Rattle.ov_line.proofs.PlainText.{IsPlain, text_utf8, reads_compact, string_text, escape_dotted}
 
 -- The text in its pieces, as they are taken off its front.
@@ -43,6 +45,10 @@ made : (at lane id : ℕ) (remote : List ℕ) (port : ℕ) (vpn : List ℕ) → 
 unfolding serde_json_on_literals new_data
 made at lane id remote port vpn a l i p = rw (number_of-decimal at a, number_of-decimal lane l, number_of-decimal id i, number_of-decimal port p) refl
 
+shallow : (at lane id : ℕ) (remote : List ℕ) (port : ℕ) (vpn : List ℕ) → depth (outline (new_data at lane id remote port vpn)) ≤ 127
+unfolding serde_json_on_literals new_data
+shallow at lane id remote port vpn = omega arith
+
 plain_data : (at lane id : ℕ) (remote : List ℕ) (port : ℕ) (vpn : List ℕ) → at < 2 ^ 64 → lane < 2 ^ 64 → id < 2 ^ 64 → port < 2 ^ 64 → IsUtf8 remote → IsUtf8 vpn → IsPlain (new_data at lane id remote port vpn)
 unfolding new_data
 plain_data at lane id remote port vpn a l i p r v =
@@ -65,14 +71,14 @@ says_new bytes lanes at lane id remote port vpn far near text a l below i p ther
     let r = escape_dotted remote far there in
     let v = escape_dotted vpn near here in
     let same : bytes ≡ compact_text (new_data at lane id remote port vpn) = text ∙ text_is at lane id remote port vpn r.0 v.0 in
-    let plain = plain_data at lane id remote port vpn (omega arith) (omega arith) (omega arith) (omega arith) r.1 v.1 in
+    let plain = plain_data at lane id remote port vpn (fits_64 at a) (fits_64 lane l) (fits_64 id i) (fits_64 port p) r.1 v.1 in
     record {
       utf8 = subst IsUtf8 (sym same) (text_utf8 (new_data at lane id remote port vpn) plain);
       value = new_data at lane id remote port vpn;
-      reads = ap read same ∙ reads_compact (new_data at lane id remote port vpn) plain (omega arith) (made at lane id remote port vpn (omega arith) (omega arith) (omega arith) (omega arith));
+      reads = ap read same ∙ reads_compact (new_data at lane id remote port vpn) plain (shallow at lane id remote port vpn) (made at lane id remote port vpn (fits_64 at a) (fits_64 lane l) (fits_64 id i) (fits_64 port p));
       is_line = record {
-        at = (refl, omega arith);
-        lane = (refl, omega arith);
+        at = (refl, is_most at a);
+        lane = (refl, is_most lane l);
         below = below;
         word = refl;
         deed = record {
@@ -80,11 +86,11 @@ says_new bytes lanes at lane id remote port vpn far near text a l below i p ther
           ifindex = tt;
           peer = record {
             only = refl;
-            id = (refl, omega arith);
+            id = (refl, is_most id i);
             remote_ipv4 = record { text = remote; given = refl; dotted = there };
             remote_ipv6 = tt;
             remote_ipv6_scope_id = tt;
-            remote_port = (refl, omega arith);
+            remote_port = (refl, is_most port p);
             socket = tt;
             socket_netnsid = tt;
             vpn_ipv4 = record { text = vpn; given = refl; dotted = here };

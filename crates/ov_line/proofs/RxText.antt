@@ -4,6 +4,7 @@ use Rattle.std.specs.Prelude.{decimal}
 use Rattle.std.specs.Str.{IsUtf8}
 use Rattle.std.specs.Net.Grammar.{IsDotted}
 use Rattle.json.specs.Print.{escape, quoted}
+use Rattle.json.specs.Tree.{depth}
 use Rattle.json.proofs.Printed.Utf8.{IsUtf8-are_ascii}
 use Rattle.serde_json.specs.Read.{read, of_json}
 use Rattle.serde_json.specs.Written.{outline, compact_text}
@@ -14,6 +15,7 @@ use Rattle.ov_base.specs.declared.address.Addr.TheVariants.{V4}
 use Rattle.ov_model.specs.declared.line.Deed.TheVariants as deed
 use Rattle.ov_line.specs.Compact.{rx_text, rx_data, from_data}
 use Rattle.ov_line.specs.Grammar.{Says}
+use Rattle.ov_line.proofs.Widths.{fits_64, is_most}
 use Rattle.ov_line.proofs.PlainText.{IsPlain, text_utf8, reads_compact, string_text, escape_decoded, escape_dotted}
 
 -- The text in its pieces, as they are taken off its front.
@@ -39,6 +41,13 @@ made : (at : ℕ) (digits addr : List ℕ) (port lane : ℕ) → at < 2 ^ 64 →
 unfolding serde_json_on_literals rx_data
 made at digits addr port lane a p l = rw (number_of-decimal at a, number_of-decimal port p, number_of-decimal lane l) refl
 
+shallow : (at : ℕ) (digits addr : List ℕ) (port lane : ℕ) → depth (outline (rx_data at digits addr port lane)) ≤ 127
+unfolding serde_json_on_literals rx_data
+shallow at digits addr port lane = omega arith
+
+port_64 : (port : ℕ) → port ≤ 65535 → port < 2 ^ 64
+port_64 port h = omega arith
+
 plain_data : (at : ℕ) (digits addr : List ℕ) (port lane : ℕ) → at < 2 ^ 64 → port < 2 ^ 64 → lane < 2 ^ 64 → IsUtf8 digits → IsUtf8 addr → IsPlain (rx_data at digits addr port lane)
 unfolding rx_data
 plain_data at digits addr port lane a p l d t =
@@ -53,14 +62,14 @@ says_rx bytes lanes at digits addr port lane datagram octets text a l below p do
     let clean = escape_decoded digits datagram decoded in
     let address = escape_dotted addr octets dotted in
     let same : bytes ≡ compact_text (rx_data at digits addr port lane) = text ∙ text_is at digits addr port lane clean.0 address.0 in
-    let plain = plain_data at digits addr port lane (omega arith) (omega arith) (omega arith) clean.1 address.1 in
+    let plain = plain_data at digits addr port lane (fits_64 at a) (port_64 port p) (fits_64 lane l) clean.1 address.1 in
     record {
       utf8 = subst IsUtf8 (sym same) (text_utf8 (rx_data at digits addr port lane) plain);
       value = rx_data at digits addr port lane;
-      reads = ap read same ∙ reads_compact (rx_data at digits addr port lane) plain (omega arith) (made at digits addr port lane (omega arith) (omega arith) (omega arith));
+      reads = ap read same ∙ reads_compact (rx_data at digits addr port lane) plain (shallow at digits addr port lane) (made at digits addr port lane (fits_64 at a) (port_64 port p) (fits_64 lane l));
       is_line = record {
-        at = (refl, omega arith);
-        lane = (refl, omega arith);
+        at = (refl, is_most at a);
+        lane = (refl, is_most lane l);
         below = below;
         word = refl;
         deed = record {

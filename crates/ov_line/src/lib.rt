@@ -7,19 +7,11 @@ pub mod compact_peer;
 pub mod compact_rx;
 pub mod compact_tx;
 pub mod digits;
-#[cfg(test)]
-mod forms_tests;
 pub mod grammar;
 pub mod keyconf;
 pub mod laws;
 pub mod line;
-#[cfg(test)]
-mod line_tests;
 pub mod member;
-#[cfg(test)]
-mod odd_lines_tests;
-#[cfg(test)]
-mod packet_tests;
 pub mod packets;
 pub mod parts;
 pub mod peer;

@@ -185,38 +185,41 @@ pub fn key_command(operation: NlOp, given: &Option<NlKeyConf>) -> Result<Command
 mod tests {
     use super::*;
     use crate::call_of;
-    use ov_base::Memory;
     use ov_model::{NlMessage, Slot};
     use std::alloc::Global;
-    use std::test::Fail;
+    use std::process::Abort;
 
-    /// A direction with a key of so many bytes, each a 7, and a tail of so many, each a 9.
-    fn dir(alloc: Global, key: usize, tail: usize) -> Result<Option<NlKeyDir>, Memory> {
-        Ok(Some(NlKeyDir {
-            cipher_key: Some(Octets::of_vec(vec![in alloc; 7u8; key]?)),
-            nonce_tail: Some(Octets::of_vec(vec![in alloc; 9u8; tail]?)),
-        }))
+    /// So many bytes, each of them the same.
+    fn filled(rt: &impl Abort, alloc: Global, byte: u8, length: usize) -> Octets {
+        let Ok(bytes) = vec![in alloc; byte; length] else {
+            panic!(rt; "no memory");
+        };
+        Octets::of_vec(bytes)
     }
 
-    /// A key-new of AES-GCM that has all that it needs, with keys and tails of these lengths.
-    fn whole(
-        alloc: Global,
-        encrypt: (usize, usize),
-        decrypt: (usize, usize),
-    ) -> Result<NlKeyConf, Memory> {
-        Ok(NlKeyConf {
+    /// A direction with a key of so many bytes, each a 7, and a tail of so many, each a 9.
+    fn dir(rt: &impl Abort, alloc: Global, key: usize, tail: usize) -> NlKeyDir {
+        NlKeyDir {
+            cipher_key: Some(filled(rt, alloc, 7, key)),
+            nonce_tail: Some(filled(rt, alloc, 9, tail)),
+        }
+    }
+
+    /// A key-new of AES-GCM that has all that it needs, with these directions.
+    fn whole(encrypt: Option<NlKeyDir>, decrypt: Option<NlKeyDir>) -> NlKeyConf {
+        NlKeyConf {
             peer_id: Some(16777215),
             slot: Some(Slot::Primary),
             key_id: Some(7),
             cipher: Some(Cipher::AesGcm),
-            encrypt: dir(alloc, encrypt.0, encrypt.1)?,
-            decrypt: dir(alloc, decrypt.0, decrypt.1)?,
-        })
+            encrypt,
+            decrypt,
+        }
     }
 
     /// A key-new that is taken.
-    fn good(alloc: Global) -> Result<NlKeyConf, Memory> {
-        whole(alloc, (16, 8), (16, 8))
+    fn good(rt: &impl Abort, alloc: Global) -> NlKeyConf {
+        whole(Some(dir(rt, alloc, 16, 8)), Some(dir(rt, alloc, 16, 8)))
     }
 
     /// What the attributes are answered.
@@ -229,128 +232,176 @@ mod tests {
         })
     }
 
-    #[test]
-    fn a_key_with_all_that_it_needs_is_a_command(rt: HostRuntime) -> Result<(), Fail> {
-        let conf = whole(rt.alloc(), (16, 8), (32, 8))?;
+    /// A key-new is refused so.
+    fn refuses(rt: &impl Abort, conf: NlKeyConf, errno: Errno) {
+        assert_eq!(rt; answer(Some(conf)), Err(errno));
+    }
+
+    /// A key-new lacks something, or has it out of range.
+    fn lacks(rt: &impl Abort, conf: NlKeyConf) {
+        refuses(rt, conf, Errno::Invalid);
+    }
+
+    /// The key of a key-new that is taken.
+    fn taken(rt: &impl Abort, conf: NlKeyConf) -> KeyConf {
         let Ok(Command::KeyNew(key)) = answer(Some(conf)) else {
             panic!(rt; "refused");
         };
+        key
+    }
+
+    #[test]
+    fn a_key_with_all_that_it_needs_is_a_command(rt: HostRuntime) {
+        let encrypt = dir(&rt, rt.alloc(), 16, 8);
+        let decrypt = dir(&rt, rt.alloc(), 32, 8);
+        let key = taken(&rt, whole(Some(encrypt), Some(decrypt)));
         assert_eq!(rt; key.peer.get(), 16777215);
         assert_eq!(rt; key.key_id.get(), 7);
         assert_eq!(rt; key.slot, Slot::Primary);
         assert_eq!(rt; key.encrypt.key, KeyBytes::K16([7; 16]));
         assert_eq!(rt; key.decrypt.key, KeyBytes::K32([7; 32]));
         assert_eq!(rt; key.encrypt.tail, [9; 8]);
-        Ok(())
+    }
+
+    /// A key-new with a key and a tail of these lengths, in bytes, to encrypt with.
+    fn encrypting(rt: &impl Abort, alloc: Global, key: usize, tail: usize) -> NlKeyConf {
+        whole(Some(dir(rt, alloc, key, tail)), Some(dir(rt, alloc, 24, 8)))
+    }
+
+    /// A key-new with a key and a tail of these lengths, in bytes, to decrypt with.
+    fn decrypting(rt: &impl Abort, alloc: Global, key: usize, tail: usize) -> NlKeyConf {
+        whole(Some(dir(rt, alloc, 24, 8)), Some(dir(rt, alloc, key, tail)))
+    }
+
+    /// A key of this length with a tail of 8 bytes is taken in both directions.
+    fn fits(rt: &impl Abort, alloc: Global, key: usize) {
+        assert!(rt; answer(Some(encrypting(rt, alloc, key, 8))).is_ok());
+        assert!(rt; answer(Some(decrypting(rt, alloc, key, 8))).is_ok());
+    }
+
+    /// A key and a tail of these lengths are refused in both directions.
+    fn misfits(rt: &impl Abort, alloc: Global, key: usize, tail: usize) {
+        lacks(rt, encrypting(rt, alloc, key, tail));
+        lacks(rt, decrypting(rt, alloc, key, tail));
     }
 
     #[test]
-    fn keys_and_tails_have_their_lengths(rt: HostRuntime) -> Result<(), Fail> {
-        // The lengths of a key and a tail, in bytes, and whether they are taken.
-        let rows = [
-            (15, 8, false),
-            (16, 8, true),
-            (17, 8, false),
-            (23, 8, false),
-            (24, 8, true),
-            (25, 8, false),
-            (31, 8, false),
-            (32, 8, true),
-            (33, 8, false),
-            (0, 8, false),
-            (16, 7, false),
-            (16, 9, false),
-            (16, 0, false),
-        ];
-        for (key, tail, taken) in rows {
-            let encrypt = answer(Some(whole(rt.alloc(), (key, tail), (24, 8))?));
-            let decrypt = answer(Some(whole(rt.alloc(), (24, 8), (key, tail))?));
-            if taken {
-                assert!(rt; encrypt.is_ok() && decrypt.is_ok(), "{key} {tail}");
-            } else {
-                assert!(rt; encrypt == Err(Errno::Invalid), "encrypt {key} {tail}");
-                assert!(rt; decrypt == Err(Errno::Invalid), "decrypt {key} {tail}");
-            }
+    fn keys_and_tails_have_their_lengths(rt: HostRuntime) {
+        misfits(&rt, rt.alloc(), 15, 8);
+        fits(&rt, rt.alloc(), 16);
+        misfits(&rt, rt.alloc(), 17, 8);
+        misfits(&rt, rt.alloc(), 23, 8);
+        fits(&rt, rt.alloc(), 24);
+        misfits(&rt, rt.alloc(), 25, 8);
+        misfits(&rt, rt.alloc(), 31, 8);
+        fits(&rt, rt.alloc(), 32);
+        misfits(&rt, rt.alloc(), 33, 8);
+        misfits(&rt, rt.alloc(), 0, 8);
+        misfits(&rt, rt.alloc(), 16, 7);
+        misfits(&rt, rt.alloc(), 16, 9);
+        misfits(&rt, rt.alloc(), 16, 0);
+    }
+
+    /// A key-new with another peer id.
+    fn with_peer_id(rt: &impl Abort, alloc: Global, peer_id: Option<u32>) -> NlKeyConf {
+        NlKeyConf {
+            peer_id,
+            ..good(rt, alloc)
         }
-        Ok(())
+    }
+
+    /// A key-new with another key id.
+    fn with_key_id(rt: &impl Abort, alloc: Global, key_id: Option<u32>) -> NlKeyConf {
+        NlKeyConf {
+            key_id,
+            ..good(rt, alloc)
+        }
+    }
+
+    /// A key-new without a slot.
+    fn slotless(rt: &impl Abort, alloc: Global) -> NlKeyConf {
+        NlKeyConf {
+            slot: None,
+            ..good(rt, alloc)
+        }
+    }
+
+    /// A key-new without a cipher.
+    fn without_cipher(rt: &impl Abort, alloc: Global) -> NlKeyConf {
+        NlKeyConf {
+            cipher: None,
+            ..good(rt, alloc)
+        }
+    }
+
+    /// A key-new of a cipher, with keys of these lengths.
+    fn of_cipher(
+        rt: &impl Abort,
+        alloc: Global,
+        cipher: Cipher,
+        encrypt: usize,
+        decrypt: usize,
+    ) -> NlKeyConf {
+        NlKeyConf {
+            peer_id: Some(16777215),
+            slot: Some(Slot::Primary),
+            key_id: Some(7),
+            cipher: Some(cipher),
+            encrypt: Some(dir(rt, alloc, encrypt, 8)),
+            decrypt: Some(dir(rt, alloc, decrypt, 8)),
+        }
     }
 
     #[test]
-    fn what_is_missing_or_out_of_range_is_refused(rt: HostRuntime) -> Result<(), Fail> {
-        let rows = [
-            NlKeyConf {
-                peer_id: None,
-                ..good(rt.alloc())?
-            },
-            NlKeyConf {
-                peer_id: Some(16777216),
-                ..good(rt.alloc())?
-            },
-            NlKeyConf {
-                slot: None,
-                ..good(rt.alloc())?
-            },
-            NlKeyConf {
-                key_id: None,
-                ..good(rt.alloc())?
-            },
-            NlKeyConf {
-                key_id: Some(8),
-                ..good(rt.alloc())?
-            },
-            NlKeyConf {
-                key_id: Some(256),
-                ..good(rt.alloc())?
-            },
-            NlKeyConf {
-                cipher: None,
-                ..good(rt.alloc())?
-            },
-            NlKeyConf {
-                encrypt: None,
-                ..good(rt.alloc())?
-            },
-            NlKeyConf {
-                decrypt: None,
-                ..good(rt.alloc())?
-            },
-            // What is missing comes before the cipher.
-            NlKeyConf {
-                cipher: Some(Cipher::NoCipher),
-                ..whole(rt.alloc(), (17, 8), (16, 8))?
-            },
-        ];
-        for (number, conf) in rows.into_iter().enumerate() {
-            assert!(rt; answer(Some(conf)) == Err(Errno::Invalid), "row {number}");
-        }
+    fn what_is_missing_or_out_of_range_is_refused(rt: HostRuntime) {
+        lacks(&rt, with_peer_id(&rt, rt.alloc(), None));
+        lacks(&rt, with_peer_id(&rt, rt.alloc(), Some(16777216)));
+        lacks(&rt, slotless(&rt, rt.alloc()));
+        lacks(&rt, with_key_id(&rt, rt.alloc(), None));
+        lacks(&rt, with_key_id(&rt, rt.alloc(), Some(8)));
+        lacks(&rt, with_key_id(&rt, rt.alloc(), Some(256)));
+        lacks(&rt, without_cipher(&rt, rt.alloc()));
+        lacks(&rt, whole(None, Some(dir(&rt, rt.alloc(), 16, 8))));
+        lacks(&rt, whole(Some(dir(&rt, rt.alloc(), 16, 8)), None));
+        // What is missing comes before the cipher.
+        lacks(&rt, of_cipher(&rt, rt.alloc(), Cipher::NoCipher, 17, 16));
         assert_eq!(rt; answer(None), Err(Errno::Invalid));
-        Ok(())
     }
 
     #[test]
-    fn other_ciphers_are_not_supported(rt: HostRuntime) -> Result<(), Fail> {
-        for cipher in [Cipher::NoCipher, Cipher::ChaCha20Poly1305] {
-            let conf = NlKeyConf {
-                cipher: Some(cipher),
-                ..whole(rt.alloc(), (32, 8), (16, 8))?
-            };
-            assert_eq!(rt; answer(Some(conf)), Err(Errno::NotSupported));
-        }
-        Ok(())
+    fn other_ciphers_are_not_supported(rt: HostRuntime) {
+        let none = of_cipher(&rt, rt.alloc(), Cipher::NoCipher, 32, 16);
+        refuses(&rt, none, Errno::NotSupported);
+        let other = of_cipher(&rt, rt.alloc(), Cipher::ChaCha20Poly1305, 32, 16);
+        refuses(&rt, other, Errno::NotSupported);
+    }
+
+    /// A direction is printed so.
+    fn prints(rt: &impl Abort, alloc: Global, dir: &NlKeyDir, wanted: &str) {
+        let Ok(text) = format!(in alloc; "{dir:?}") else {
+            panic!(rt; "no memory");
+        };
+        assert!(rt; text.as_str() == wanted);
+    }
+
+    /// A direction that may be missing is printed so.
+    fn prints_any(rt: &impl Abort, alloc: Global, dir: &Option<NlKeyDir>, wanted: &str) {
+        let Ok(text) = format!(in alloc; "{dir:?}") else {
+            panic!(rt; "no memory");
+        };
+        assert!(rt; text.as_str() == wanted);
     }
 
     #[test]
-    fn no_byte_of_a_direction_is_printed(rt: HostRuntime) -> Result<(), Fail> {
-        let text = format!(in rt.alloc(); "{:?}", dir(rt.alloc(), 16, 8)?)?;
-        assert!(rt;
-            text.as_str() == "Some(NlKeyDir(bytes of the key: Some(16), of the tail: Some(8)))"
-        );
+    fn no_byte_of_a_direction_is_printed(rt: HostRuntime) {
+        let both = Some(dir(&rt, rt.alloc(), 16, 8));
+        let lengths = "Some(NlKeyDir(bytes of the key: Some(16), of the tail: Some(8)))";
+        prints_any(&rt, rt.alloc(), &both, lengths);
         let none = NlKeyDir {
             cipher_key: None,
             nonce_tail: None,
         };
-        let text = format!(in rt.alloc(); "{none:?}")?;
-        assert!(rt; text.as_str() == "NlKeyDir(bytes of the key: None, of the tail: None)");
-        Ok(())
+        let nothing = "NlKeyDir(bytes of the key: None, of the tail: None)";
+        prints(&rt, rt.alloc(), &none, nothing);
     }
 }

@@ -7,7 +7,6 @@ use Rattle.ov_model.specs.declared.place.Place.{Place}
 use Rattle.ov_model.specs.declared.act.Act.{Act}
 use Rattle.ov_model.specs.declared.act.Act.TheVariants as act
 use Rattle.ov_model.specs.declared.command.Command.TheVariants as command
-use Rattle.ov_model.specs.declared.hold.Given.{Given}
 use Rattle.ov_model.specs.declared.hold.Owed.{Owed}
 use Rattle.ov_model.specs.declared.hold.Owed.TheVariants as owed
 use Rattle.ov_model.specs.declared.reply.HoldView.{HoldView}
@@ -26,7 +25,7 @@ use Rattle.ov_model.specs.declared.answer.DropCause.{DropCause}
 use Rattle.ov_model.specs.Tables.{Material}
 use Rattle.ov_model.specs.Events.{Event, GaveKey, GavePeer, Step, step_of, release_of, releases, steps_in, judgements_in, draws_in}
 use Rattle.ov_model.specs.Keys.{sealed_ids}
-use Rattle.ov_model.specs.Path.{at_once, first, begins, IsLook, IsMiss, UseFits, settled_answer, Columns, use_row, owed_where, hold_owed, PingsFit, pings_steps, pings_out, by_at_once, by_command, by_miss, by_round, by_tick}
+use Rattle.ov_model.specs.Path.{at_once, first, begins, IsLook, IsMiss, UseFits, settled_answer, Columns, use_row, hold_owed, PingsFit, pings_steps, pings_out, by_at_once, by_command, by_miss, by_round, by_tick}
 use Rattle.ov_path.specs.Desks.{Holding, View, Called, owed_if, first_owed, first_of, look_holds}
 use Rattle.ov_path.specs.Stages.{ends, left_in, is_pause, is_ended}
 use Rattle.ov_path.specs.declared.stage.Pinging.{Pinging}

@@ -23,7 +23,6 @@ use Rattle.ov_model.specs.declared.replay.Refusal.{Refusal}
 use Rattle.ov_model.specs.declared.replay.Refusal.TheVariants as refused
 use Rattle.ov_model.specs.declared.stand.Use.{Use}
 use Rattle.ov_model.specs.declared.stand.Use.TheVariants as used
-use Rattle.ov_model.specs.declared.stand.Stand.{Stand}
 use Rattle.ov_model.specs.declared.stand.Stand.TheVariants as stand
 use Rattle.ov_model.specs.declared.line.Line.{Line}
 use Rattle.ov_model.specs.declared.line.Deed.{Deed}
@@ -44,7 +43,7 @@ use Rattle.ov_path.specs.declared.stage.Purpose.{Purpose}
 use Rattle.ov_path.specs.declared.stage.Purpose.TheVariants as purpose
 use Rattle.ov_path.specs.declared.stage.Stage.{Stage}
 use Rattle.ov_path.specs.declared.stage.Stage.TheVariants as stage
-use Rattle.ov_path.specs.Walks.{released, judged_as, Opens, Held, AtKeyGiven, Trail, Walking}
+use Rattle.ov_path.specs.Walks.{judged_as, Opens, Held, AtKeyGiven, Trail, Walking}
 use Rattle.ov_path.proofs.Seeing.{released-append, stood, lefts, all_done, owes_on, no_first, see_released, left_released}
 use Rattle.ov_path.proofs.Ticks.{ticked_step, tick_released, see_ticking, tick_same}
 use Rattle.ov_path.proofs.Beginning.{tick_line}

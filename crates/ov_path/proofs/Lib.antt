@@ -10,7 +10,5 @@ pub mod Ticks
 pub mod Going
 -- A tag that verifies opens its datagram.
 pub mod Opening
--- What each call makes of the plain desk of the tests.
-pub mod Plain
 -- The event that a turn makes is the one that comes next, and it is the line's own.
 pub mod Making

@@ -1,5 +1,5 @@
 -- The event that a turn makes is the one that comes next, and it is the line's own.
-use Rattle.std.proofs.Common.{ℕ, ◌≡◌, List, [], ◌∷◌, refl, sym, ◌∙◌, ap, subst, Bool, true, false}
+use Rattle.std.proofs.Common.{ℕ, ◌≡◌, List, [], ◌∷◌, refl, sym, ◌∙◌, ap, subst, true, false}
 use Rattle.std.specs.Prelude.{Option, Some, None, unwrap_or}
 use Rattle.ov_base.specs.declared.address.Addr.{Addr}
 use Rattle.ov_base.specs.declared.address.Transport.{Transport}
@@ -23,7 +23,7 @@ use Rattle.ov_model.specs.Tables.{Material}
 use Rattle.ov_model.specs.Packets.{opened, packet_id_of, keepalive}
 use Rattle.ov_model.specs.Events.{Event, Stepped, Drew, GaveKey, GavePeer, release_of}
 use Rattle.ov_model.specs.Path.{at_once, first, begins, sent_act, settle_act}
-use Rattle.ov_model.specs.Next.{Ask, Table, request, release_act, asks, asks_due}
+use Rattle.ov_model.specs.Next.{Table, request, release_act, asks, asks_due}
 use Rattle.ov_path.specs.Desks.{View, Did, Called, judged_at, first_owed, first_of, stepped_as}
 use Rattle.ov_path.specs.Stages.{stand_in, left_in, is_pause}
 use Rattle.ov_path.specs.declared.stage.Pinging.{Pinging}

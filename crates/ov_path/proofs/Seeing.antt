@@ -6,7 +6,7 @@ use Rattle.ov_model.specs.declared.hold.Owed.{Owed}
 use Rattle.ov_model.specs.declared.hold.Owed.TheVariants as owed
 use Rattle.ov_model.specs.declared.stand.Stand.{Stand}
 use Rattle.ov_model.specs.declared.stand.Stand.TheVariants as stand
-use Rattle.ov_model.specs.Events.{Event, Stepped, Judged, Drew, GaveKey, GavePeer, Step, steps_in, judgements_in, release_of, releases}
+use Rattle.ov_model.specs.Events.{Event, Stepped, Judged, Drew, GaveKey, GavePeer, steps_in, judgements_in, release_of, releases}
 use Rattle.ov_model.specs.Next.{see, see_all, stand_of, left_see, left_all, left_of}
 use Rattle.ov_path.specs.Desks.{Holding, View, Leaves, IsPause, first_owed, after_first, first_of}
 use Rattle.ov_path.specs.Walks.{released}

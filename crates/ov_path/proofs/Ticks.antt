@@ -1,6 +1,6 @@
 -- A tick goes on: each event of its pings leads from one stage to the next.
 use Rattle.std.proofs.Common.{ℕ, ◌≡◌, ◌+◌, List, [], ◌∷◌, ◌++◌, refl, sym, ◌∙◌, ap, subst, append_assoc, append-nil, Bool, true, false}
-use Rattle.std.specs.Prelude.{Option, Some, None, ⊤, drop, map}
+use Rattle.std.specs.Prelude.{Option, Some, drop, map}
 use Rattle.std.proofs.lemmas.List.{map-append}
 use Rattle.ov_base.specs.declared.address.Addr.{Addr}
 use Rattle.ov_model.specs.declared.place.Place.{Place}
@@ -18,7 +18,6 @@ use Rattle.ov_model.specs.declared.reply.Reply.{Reply}
 use Rattle.ov_model.specs.declared.reply.Reply.TheVariants as reply
 use Rattle.ov_model.specs.declared.stand.Use.{Use}
 use Rattle.ov_model.specs.declared.stand.Use.TheVariants as used
-use Rattle.ov_model.specs.declared.stand.Stand.{Stand}
 use Rattle.ov_model.specs.declared.stand.Stand.TheVariants as stand
 use Rattle.ov_model.specs.declared.line.Line.{Line}
 use Rattle.ov_model.specs.declared.line.Deed.TheVariants as deed
@@ -27,13 +26,13 @@ use Rattle.ov_model.specs.declared.answer.PingOutcome.{PingOutcome}
 use Rattle.ov_model.specs.declared.answer.PingOutcome.TheVariants as outcome
 use Rattle.ov_model.specs.Packets.{keepalive}
 use Rattle.ov_model.specs.Tables.{Material}
-use Rattle.ov_model.specs.Events.{Event, Stepped, Drew, GaveKey, GavePeer, Step, DrawnId, steps_in, judgements_in, draws_in, drawn_id, step_of, release_of, releases}
+use Rattle.ov_model.specs.Events.{Event, Stepped, Drew, GaveKey, GavePeer, Step, DrawnId, steps_in, judgements_in, draws_in, step_of, release_of, releases}
 use Rattle.ov_model.specs.Keys.{sealed_ping, sealed_pings, id_of}
-use Rattle.ov_model.specs.Path.{UseFits, Ping, skipped, pinged, PingFits, PingsFit, Round, ping_steps, pings_steps, ping_outcome, pings_out, sealed_out, sent_act, spent_reply, use_row, used_outcome, owed_where, hold_owed}
-use Rattle.ov_model.specs.Next.{see, stepped, stand_of, left_of, all_but_first, is_killed, looked}
+use Rattle.ov_model.specs.Path.{Ping, skipped, pinged, PingFits, PingsFit, Round, ping_steps, pings_steps, ping_outcome, pings_out, sealed_out, sent_act, spent_reply, use_row, owed_where, hold_owed}
+use Rattle.ov_model.specs.Next.{see, stepped, left_of, all_but_first, is_killed, looked}
 use Rattle.ov_model.proofs.Counting.{draws_in-append}
 use Rattle.ov_path.specs.Desks.{Holding, NoHold, View, Grows, SameLine, Leaves, Did, Called, IsPause, IsNextDue, owed_if, first_owed, after_first, first_of}
-use Rattle.ov_path.specs.Stages.{stand_in, stand_at, left_in, ticked, is_pause}
+use Rattle.ov_path.specs.Stages.{stand_in, left_in, ticked, is_pause}
 use Rattle.ov_path.specs.declared.stage.Pinging.{Pinging}
 use Rattle.ov_path.specs.declared.stage.Pinging.TheVariants as pinging
 use Rattle.ov_path.specs.declared.stage.Pings.{Pings}

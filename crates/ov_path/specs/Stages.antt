@@ -1,5 +1,5 @@
 -- The stages of a line's code: the stand of each, the due peers that are left, and the answer at the last ones.
-use Rattle.std.specs.Prelude.{ℕ, List, [], ◌∷◌, Bool, true, false, if◌then◌else◌, ◌&&◌, is_none, drop, Result, Ok, Err}
+use Rattle.std.specs.Prelude.{ℕ, List, [], Bool, true, false, if◌then◌else◌, ◌&&◌, is_none, drop, Result, Ok, Err}
 use Rattle.ov_model.specs.declared.answer.Answer.{Answer}
 use Rattle.ov_model.specs.declared.answer.Answer.TheVariants as answer
 use Rattle.ov_model.specs.declared.reply.Reply.{Reply}

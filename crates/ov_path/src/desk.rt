@@ -15,11 +15,16 @@ use ov_model::{Call, Drawn, Given, Owed, Place, Reply, Verdict};
 /// `view` is what the desk shows to the present line: its events so far, the hold that is out, the releases
 /// that are owed, what is had of the keys by their serials, which only grows, and the next hop of an address,
 /// which becomes another only where a step of the table is made. `does` is what an event makes of the desk
-/// itself: each kind of desk says here what its callers are to know of it, and a line passes it on.
+/// itself: each kind of desk says here what its callers are to know of it, and a line passes it on. `keeps` is what
+/// stays of the desk itself where there was no memory: a shared desk may have seen more meanwhile.
 pub trait Desk {
     ghost view: { Self → View };
 
     ghost does: { Self → Event → Self → Type 0 };
+
+    ghost keeps: { Self → Self → Type 0 };
+
+    ghost keeps_itself: { (d : Self) → keeps d d };
 
     /// Makes one step of the peer table, any but a release. A look-up that answers Hold takes the hold.
     /// After a command some of the keys and peers that it removed are owed their release. At `Memory` no
@@ -27,7 +32,8 @@ pub trait Desk {
     fn table(&mut self, place: Place, call: &Call) -> Result<Reply, Memory>
         requires may { MayCall (view self.old) call.now.act }
         ensures ok { IfOk result (λ r. Called view does self.old place call.now r self.new) }
-        ensures err { OnErr result (SameLine (view self.old) (view self.new)) };
+        ensures err { OnErr result (SameLine (view self.old) (view self.new)) }
+        ensures keeps { OnErr result (keeps self.old self.new) };
 
     /// The two directions of a key: None, or what the desk has of it, and Some where the key is held and not
     /// used yet. It is lent, not copied.
@@ -43,7 +49,8 @@ pub trait Desk {
         requires looked { IsLooked (stand_of (view self.old).events) }
         ensures ok { IfOk result (λ v.
             Did view does self.old (judged_at place key id at v) self.new) }
-        ensures err { OnErr result (SameLine (view self.old) (view self.new)) };
+        ensures err { OnErr result (SameLine (view self.old) (view self.new)) }
+        ensures keeps { OnErr result (keeps self.old self.new) };
 
     /// Asks the counter of a held key for a packet id.
     fn draw(&mut self, key: u32) -> Drawn

@@ -4,14 +4,14 @@
 mod begun;
 mod calls;
 mod desk;
-mod open;
+mod inbound;
+mod outbound;
 mod ping;
-mod seal;
 mod stage;
-#[cfg(test)]
-mod tests;
 mod walk;
 
 pub use desk::Desk;
+pub use inbound::open;
+pub use outbound::seal;
 pub use stage::{Pinging, Pings, Purpose, Stage};
 pub use walk::{Progress, Walk};

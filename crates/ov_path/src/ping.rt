@@ -1,6 +1,6 @@
 // The turns of a tick after its step: each due peer in turn is looked at, and sent a ping where it takes one.
 
-ghost use Rattle.std.specs.Prelude.{◌≡◌, ◌<◌, [], true, false, OnOk, OnErr, IfOk, vec_len};
+ghost use Rattle.std.specs.Prelude.{◌≡◌, ◌<◌, ◌++◌, ◌∷◌, [], true, false, OnOk, OnErr, IfOk, vec_len};
 ghost use Rattle.std.specs.Vec.{vec_capacity};
 ghost use Rattle.ov_base.specs.declared.address.Addr.{Addr};
 ghost use Rattle.ov_model.specs.declared.draw.Drawn.TheVariants as drawn;
@@ -12,7 +12,7 @@ ghost use Rattle.ov_path.specs.Walks.{Walking, Made};
 
 use crate::calls::{pair_of, sent_of, was_killed};
 use crate::desk::Desk;
-use crate::seal::seal;
+use crate::outbound::seal;
 use crate::stage::{Pinging, Pings};
 use ov_base::{ListOf, Memory};
 use ov_model::{
@@ -40,6 +40,7 @@ pub fn ping<D: Desk>(
         Walking via place line.now (D.view desk.new) (stage.Ticking s pings.new)) }
     ensures made { OnOk result (Made D.view D.does via place line.now desk.old desk.new) }
     ensures err { OnErr result (SameLine (D.view desk.old) (D.view desk.new)) }
+    ensures keeps { OnErr result (D.keeps desk.old desk.new) }
     ensures kept { OnErr result (pings.new ≡ pings.old) }
     ensures grows { Grows (D.view desk.old).material (D.view desk.new).material }
 {
@@ -86,33 +87,37 @@ fn look<D: Desk>(
         Walking via place line.now (D.view desk.new) (stage.Ticking s pings.new)) }
     ensures made { OnOk result (Made D.view D.does via place line.now desk.old desk.new) }
     ensures err { OnErr result (SameLine (D.view desk.old) (D.view desk.new)) }
+    ensures keeps { OnErr result (D.keeps desk.old desk.new) }
     ensures kept { OnErr result (pings.new ≡ pings.old) }
     ensures grows { Grows (D.view desk.old).material (D.view desk.new).material }
 {
     let Some(peer) = pings.next_due() else {
         unreachable!();
     };
-    let mut outs = make_room(alloc, &mut pings.outs)?;
+    let outs = make_room(alloc, &mut pings.outs)?;
     let call = Call {
         at: line.at,
         act: Act::KeepLook(peer),
     };
     match desk.table(place, &call) {
-        Ok(Reply::Hold(hold)) => {
-            pings.next += 1;
-            pings.outs = ListOf::of_vec(outs);
-            Ok(Pinging::Looked(peer, hold))
-        }
-        Ok(Reply::Skip) => {
-            let outcome = PingOutcome::Skip;
-            outs.push_reserved(PingOut { peer, outcome });
-            pings.next += 1;
-            pings.outs = ListOf::of_vec(outs);
-            Ok(Pinging::Skipped)
-        }
-        Ok(_) => unreachable!(),
+        Ok(reply) => match reply {
+            Reply::Hold(hold) => {
+                drop(reply);
+                put_back(pings, outs);
+                pings.next += 1;
+                Ok(Pinging::Looked(peer, hold))
+            }
+            Reply::Skip => {
+                drop(reply);
+                let outcome = PingOutcome::Skip;
+                tell(pings, outs, PingOut { peer, outcome });
+                pings.next += 1;
+                Ok(Pinging::Skipped)
+            }
+            _ => unreachable!(),
+        },
         Err(memory) => {
-            pings.outs = ListOf::of_vec(outs);
+            put_back(pings, outs);
             Err(memory)
         }
     }
@@ -136,27 +141,28 @@ fn send<D: Desk>(
         Walking via place line.now (D.view desk.new) (stage.Ticking s pings.new)) }
     ensures made { OnOk result (Made D.view D.does via place line.now desk.old desk.new) }
     ensures err { OnErr result (SameLine (D.view desk.old) (D.view desk.new)) }
+    ensures keeps { OnErr result (D.keeps desk.old desk.new) }
     ensures kept { OnErr result (pings.new ≡ pings.old) }
     ensures grows { Grows (D.view desk.old).material (D.view desk.new).material }
 {
     let packet = keepalive_message();
     let datagram = seal(alloc, &hold, pair_of(desk, hold.key), id, &packet)?;
     let act = sent_of(&hold, true, &packet);
-    let outcome = PingOutcome::Sealed(SealedOut {
-        to: hold.to,
-        key: hold.key,
-        id,
-        datagram,
-    });
-    let mut outs = make_room(alloc, &mut pings.outs)?;
+    let outs = make_room(alloc, &mut pings.outs)?;
     match desk.table(place, &Call { at: line.at, act }) {
-        Ok(_) => {
-            outs.push_reserved(PingOut { peer, outcome });
-            pings.outs = ListOf::of_vec(outs);
+        Ok(reply) => {
+            drop(reply);
+            let outcome = PingOutcome::Sealed(SealedOut {
+                to: hold.to,
+                key: hold.key,
+                id,
+                datagram,
+            });
+            tell(pings, outs, PingOut { peer, outcome });
             Ok(Pinging::Used(hold, Use::Sealed(id)))
         }
         Err(memory) => {
-            pings.outs = ListOf::of_vec(outs);
+            put_back(pings, outs);
             Err(memory)
         }
     }
@@ -179,6 +185,7 @@ fn spend<D: Desk>(
         Walking via place line.now (D.view desk.new) (stage.Ticking s pings.new)) }
     ensures made { OnOk result (Made D.view D.does via place line.now desk.old desk.new) }
     ensures err { OnErr result (SameLine (D.view desk.old) (D.view desk.new)) }
+    ensures keeps { OnErr result (D.keeps desk.old desk.new) }
     ensures kept { OnErr result (pings.new ≡ pings.old) }
     ensures grows { Grows (D.view desk.old).material (D.view desk.new).material }
 {
@@ -186,16 +193,17 @@ fn spend<D: Desk>(
         peer: hold.peer,
         key: hold.key,
     };
-    let mut outs = make_room(alloc, &mut pings.outs)?;
+    let outs = make_room(alloc, &mut pings.outs)?;
     match desk.table(place, &Call { at: line.at, act }) {
         Ok(reply) => {
             let outcome = PingOutcome::Spent;
-            outs.push_reserved(PingOut { peer, outcome });
-            pings.outs = ListOf::of_vec(outs);
-            Ok(Pinging::Used(hold, Use::Spent(was_killed(&reply))))
+            tell(pings, outs, PingOut { peer, outcome });
+            let made = Use::Spent(was_killed(&reply));
+            drop(reply);
+            Ok(Pinging::Used(hold, made))
         }
         Err(memory) => {
-            pings.outs = ListOf::of_vec(outs);
+            put_back(pings, outs);
             Err(memory)
         }
     }
@@ -215,4 +223,20 @@ fn make_room(alloc: Global, outs: &mut ListOf<PingOut>) -> Result<Vec<PingOut>, 
             Err(Memory)
         }
     }
+}
+
+/// Puts the outcomes back that were taken out.
+fn put_back(pings: &mut Pings, outs: Vec<PingOut>)
+    ensures { pings.new ≡ record pings.old { outs = outs.items } }
+{
+    drop(mem::replace(&mut pings.outs, ListOf::of_vec(outs)));
+}
+
+/// Puts the outcomes back with one more, in the room that was taken for it.
+fn tell(pings: &mut Pings, mut outs: Vec<PingOut>, out: PingOut)
+    requires room { vec_len outs < vec_capacity outs }
+    ensures { pings.new ≡ record pings.old { outs = outs.items ++ out ∷ [] } }
+{
+    outs.push_reserved(out);
+    put_back(pings, outs);
 }

@@ -10,7 +10,7 @@ use ov_model::{Answer, Drawn, HoldView, PingOut, Use};
 use std::alloc::Global;
 
 /// What a hold is for.
-#[derive(Clone, Copy, Debug, PartialEq, Eq)]
+#[derive(Clone, Copy)]
 pub enum Purpose {
     /// A packet is sealed.
     Seal,
@@ -19,7 +19,7 @@ pub enum Purpose {
 }
 
 /// Where a tick stands after its step.
-#[derive(Clone, Copy, Debug, PartialEq, Eq)]
+#[derive(Clone, Copy)]
 pub enum Pinging {
     /// No due peer was looked at yet.
     Ticked,
@@ -39,7 +39,7 @@ pub enum Pinging {
 
 /// The peers that a tick removed and those that it found due, by their serials, and the outcomes of the pings
 /// so far, in order.
-#[derive(Debug, Drop, PartialEq, Eq)]
+#[derive(Drop)]
 pub struct Pings {
     pub expired: ListOf<u32>,
     pub due: ListOf<u32>,
@@ -49,7 +49,7 @@ pub struct Pings {
 }
 
 /// Where a line stands: the stand of its events (`stand_at`), and what is known by then.
-#[derive(Debug, Drop, PartialEq, Eq)]
+#[derive(Drop)]
 pub enum Stage {
     /// Nothing happened yet.
     Fresh,

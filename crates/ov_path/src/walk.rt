@@ -19,9 +19,9 @@ ghost use Rattle.ov_path.specs.Walks.{Walking, Stands, Turned, IsOpen, HopIsOwn,
 use crate::begun::{Begun, begin_of};
 use crate::calls::{pair_of, sent_of, settle_of, was_killed};
 use crate::desk::Desk;
-use crate::open::open;
+use crate::inbound::open;
+use crate::outbound::seal;
 use crate::ping::ping;
-use crate::seal::seal;
 use crate::stage::{Pinging, Pings, Purpose, Stage};
 use ov_base::{Memory, Octets};
 use ov_model::{
@@ -32,7 +32,7 @@ use std::alloc::Global;
 use std::mem;
 
 /// Whether a line goes on.
-#[derive(Debug, Drop, PartialEq, Eq)]
+#[derive(Drop)]
 pub enum Progress {
     /// It has another turn.
     More,
@@ -41,7 +41,7 @@ pub enum Progress {
 }
 
 /// One line that runs, and where it stands.
-#[derive(Debug, Drop)]
+#[derive(Drop)]
 pub struct Walk {
     pub place: Place,
     pub stage: Stage,
@@ -82,7 +82,8 @@ impl Walk {
         ensures made { IfOk result (λ r.
             MadeBy D.view D.does via self.old.place line.now r desk.old desk.new) }
         // What stays.
-        ensures err { OnErr result (Kept (D.view desk.old) (D.view desk.new) self.old self.new) }
+        ensures err { OnErr result (Kept (D.view desk.old) (D.view desk.new) self.old self.new
+            × D.keeps desk.old desk.new) }
         ensures stays { Stays (D.view desk.old) (D.view desk.new) self.old self.new }
     {
         if let Some(owed) = desk.owed() {
@@ -120,6 +121,13 @@ impl Walk {
         self.finish(desk, line)
     }
 
+    /// From here on the walk stands at `stage`. What it stood at is let go here, at one place.
+    fn enter(&mut self, stage: Stage)
+        ensures { self.new ≡ record self.old { stage = stage } }
+    {
+        drop(mem::replace(&mut self.stage, stage));
+    }
+
     /// Answers the line where its last event was made and nothing is owed.
     fn finish<D: Desk>(&mut self, desk: &D, _line: &Line) -> Progress
         ghost via: { Addr → Addr }
@@ -133,7 +141,7 @@ impl Walk {
         match mem::replace(&mut self.stage, Stage::Fresh).into_answer() {
             Ok(answer) => Progress::Answered(answer),
             Err(stage) => {
-                self.stage = stage;
+                self.enter(stage);
                 Progress::More
             }
         }
@@ -153,6 +161,7 @@ impl Walk {
         ensures made { IfOk result (λ r.
             MadeBy D.view D.does via self.old.place line.now r desk.old desk.new) }
         ensures err { OnErr result (Kept (D.view desk.old) (D.view desk.new) self.old self.new) }
+        ensures keeps { OnErr result (D.keeps desk.old desk.new) }
         ensures stays { Stays (D.view desk.old) (D.view desk.new) self.old self.new }
     {
         match begin_of(desk, &line.deed) {
@@ -177,6 +186,7 @@ impl Walk {
         ensures made { IfOk result (λ r.
             MadeBy D.view D.does via self.old.place line.now r desk.old desk.new) }
         ensures err { OnErr result (Kept (D.view desk.old) (D.view desk.new) self.old self.new) }
+        ensures keeps { OnErr result (D.keeps desk.old desk.new) }
         ensures stays { Stays (D.view desk.old) (D.view desk.new) self.old self.new }
     {
         let call = Call {
@@ -184,7 +194,7 @@ impl Walk {
             act: Act::Do(command),
         };
         let reply = desk.table(self.place, &call)?;
-        self.stage = replied(alloc, reply);
+        self.enter(replied(alloc, reply));
         Ok(self.finish(desk, line))
     }
 
@@ -205,16 +215,25 @@ impl Walk {
         ensures made { IfOk result (λ r.
             MadeBy D.view D.does via self.old.place line.now r desk.old desk.new) }
         ensures err { OnErr result (Kept (D.view desk.old) (D.view desk.new) self.old self.new) }
+        ensures keeps { OnErr result (D.keeps desk.old desk.new) }
         ensures stays { Stays (D.view desk.old) (D.view desk.new) self.old self.new }
     {
         let call = Call { at: line.at, act };
-        match desk.table(self.place, &call)? {
+        let reply = desk.table(self.place, &call)?;
+        match reply {
             Reply::Hold(hold) => {
-                self.stage = Stage::Looked(hold, purpose);
+                drop(reply);
+                self.enter(Stage::Looked(hold, purpose));
                 Ok(Progress::More)
             }
-            Reply::NoPeer => Ok(Progress::Answered(Answer::Dropped(DropCause::NoPeer))),
-            Reply::NoKey => Ok(Progress::Answered(Answer::Dropped(DropCause::NoKey))),
+            Reply::NoPeer => {
+                drop(reply);
+                Ok(Progress::Answered(Answer::Dropped(DropCause::NoPeer)))
+            }
+            Reply::NoKey => {
+                drop(reply);
+                Ok(Progress::Answered(Answer::Dropped(DropCause::NoKey)))
+            }
             _ => unreachable!(),
         }
     }
@@ -238,11 +257,15 @@ impl Walk {
             (Made D.view D.does via self.old.place line.now desk.old desk.new) }
         ensures more { IfOk result (λ r. r ≡ More) }
         ensures err { OnErr result (SameLine (D.view desk.old) (D.view desk.new)) }
-        ensures kept { OnErr result (self.new ≡ record self.old { stage = stage.Looked hold purpose }) }
+        ensures keeps { OnErr result (D.keeps desk.old desk.new) }
+        ensures kept { OnErr result (self.new ≡ record self.old {
+          stage = stage.Looked hold purpose;
+        }) }
         ensures stays { Stays (D.view desk.old) (D.view desk.new) self.old self.new }
     {
-        self.stage = Stage::Looked(hold, purpose);
-        self.stage = put_to_use(alloc, desk, self.place, line, hold, purpose)?;
+        self.enter(Stage::Looked(hold, purpose));
+        let stage = put_to_use(alloc, desk, self.place, line, hold, purpose)?;
+        self.enter(stage);
         Ok(Progress::More)
     }
 
@@ -265,11 +288,13 @@ impl Walk {
             (Made D.view D.does via self.old.place line.now desk.old desk.new) }
         ensures more { IfOk result (λ r. r ≡ More) }
         ensures err { OnErr result (SameLine (D.view desk.old) (D.view desk.new)) }
+        ensures keeps { OnErr result (D.keeps desk.old desk.new) }
         ensures kept { OnErr result (self.new ≡ record self.old { stage = stage.Drew hold drawn }) }
         ensures stays { Stays (D.view desk.old) (D.view desk.new) self.old self.new }
     {
-        self.stage = Stage::Drew(hold, drawn);
-        self.stage = use_draw(alloc, desk, self.place, line, hold, drawn)?;
+        self.enter(Stage::Drew(hold, drawn));
+        let stage = use_draw(alloc, desk, self.place, line, hold, drawn)?;
+        self.enter(stage);
         Ok(Progress::More)
     }
 
@@ -292,6 +317,7 @@ impl Walk {
             (Made D.view D.does via self.old.place line.now desk.old desk.new) }
         ensures more { IfOk result (λ r. r ≡ More) }
         ensures err { OnErr result (SameLine (D.view desk.old) (D.view desk.new)) }
+        ensures keeps { OnErr result (D.keeps desk.old desk.new) }
         ensures kept { OnErr result (self.new ≡ record self.old {
           stage = stage.Judged hold packet;
         }) }
@@ -300,12 +326,12 @@ impl Walk {
         let settled = match settled(desk, self.place, line, &hold, packet.as_slice()) {
             Ok(settled) => settled,
             Err(memory) => {
-                self.stage = Stage::Judged(hold, packet);
+                self.enter(Stage::Judged(hold, packet));
                 return Err(memory);
             }
         };
         let answer = settled_as(settled, &hold, packet);
-        self.stage = Stage::Used(hold, Use::Settled(settled), answer);
+        self.enter(Stage::Used(hold, Use::Settled(settled), answer));
         Ok(Progress::More)
     }
 
@@ -327,6 +353,7 @@ impl Walk {
         ensures made { IfOk result (λ r.
             MadeBy D.view D.does via self.old.place line.now r desk.old desk.new) }
         ensures err { OnErr result (SameLine (D.view desk.old) (D.view desk.new)) }
+        ensures keeps { OnErr result (D.keeps desk.old desk.new) }
         ensures kept { OnErr result (self.new ≡ record self.old {
           stage = stage.Ticking at pings;
         }) }
@@ -334,11 +361,11 @@ impl Walk {
     {
         match ping(alloc, desk, self.place, line, at, &mut pings) {
             Ok(now) => {
-                self.stage = Stage::Ticking(now, pings);
+                self.enter(Stage::Ticking(now, pings));
                 Ok(self.finish(desk, line))
             }
             Err(memory) => {
-                self.stage = Stage::Ticking(at, pings);
+                self.enter(Stage::Ticking(at, pings));
                 Err(memory)
             }
         }
@@ -361,7 +388,7 @@ impl Walk {
         ensures stays { Stays (D.view desk.old) (D.view desk.new) self.old self.new }
     {
         desk.give_back_key(hold.key);
-        self.stage = Stage::KeyGiven(hold, made, answer);
+        self.enter(Stage::KeyGiven(hold, made, answer));
     }
 
     /// The hold on the peer is given back, after that on the key. The line may be over then.
@@ -382,7 +409,7 @@ impl Walk {
         ensures stays { Stays (D.view desk.old) (D.view desk.new) self.old self.new }
     {
         desk.give_back(hold.peer);
-        self.stage = Stage::PeerGiven(hold, made, answer);
+        self.enter(Stage::PeerGiven(hold, made, answer));
         self.finish(desk, line)
     }
 }
@@ -415,6 +442,7 @@ fn put_to_use<D: Desk>(
     ensures then { IfOk result (λ s. GoesOn via place line.now (D.view desk.new) s) }
     ensures made { OnOk result (Made D.view D.does via place line.now desk.old desk.new) }
     ensures err { OnErr result (SameLine (D.view desk.old) (D.view desk.new)) }
+    ensures keeps { OnErr result (D.keeps desk.old desk.new) }
     ensures grows { Grows (D.view desk.old).material (D.view desk.new).material }
 {
     match purpose {
@@ -441,6 +469,7 @@ fn use_draw<D: Desk>(
     ensures then { IfOk result (λ s. GoesOn via place line.now (D.view desk.new) s) }
     ensures made { OnOk result (Made D.view D.does via place line.now desk.old desk.new) }
     ensures err { OnErr result (SameLine (D.view desk.old) (D.view desk.new)) }
+    ensures keeps { OnErr result (D.keeps desk.old desk.new) }
     ensures grows { Grows (D.view desk.old).material (D.view desk.new).material }
 {
     match drawn {
@@ -464,6 +493,7 @@ fn send<D: Desk>(
     ensures then { IfOk result (λ s. GoesOn via place line.now (D.view desk.new) s) }
     ensures made { OnOk result (Made D.view D.does via place line.now desk.old desk.new) }
     ensures err { OnErr result (SameLine (D.view desk.old) (D.view desk.new)) }
+    ensures keeps { OnErr result (D.keeps desk.old desk.new) }
     ensures grows { Grows (D.view desk.old).material (D.view desk.new).material }
 {
     let Deed::Tx(packet) = &line.deed else {
@@ -471,7 +501,7 @@ fn send<D: Desk>(
     };
     let datagram = seal(alloc, &hold, pair_of(desk, hold.key), id, packet.as_slice())?;
     let act = sent_of(&hold, false, packet.as_slice());
-    desk.table(place, &Call { at: line.at, act })?;
+    drop(desk.table(place, &Call { at: line.at, act })?);
     let answer = Answer::Sealed(SealedOut {
         to: hold.to,
         key: hold.key,
@@ -488,6 +518,7 @@ fn spend<D: Desk>(desk: &mut D, place: Place, line: &Line, hold: HoldView) -> Re
     ensures then { IfOk result (λ s. GoesOn via place line.now (D.view desk.new) s) }
     ensures made { OnOk result (Made D.view D.does via place line.now desk.old desk.new) }
     ensures err { OnErr result (SameLine (D.view desk.old) (D.view desk.new)) }
+    ensures keeps { OnErr result (D.keeps desk.old desk.new) }
     ensures grows { Grows (D.view desk.old).material (D.view desk.new).material }
 {
     let act = Act::Spend {
@@ -496,6 +527,7 @@ fn spend<D: Desk>(desk: &mut D, place: Place, line: &Line, hold: HoldView) -> Re
     };
     let reply = desk.table(place, &Call { at: line.at, act })?;
     let made = Use::Spent(was_killed(&reply));
+    drop(reply);
     Ok(Stage::Used(hold, made, Answer::Dropped(DropCause::Spent)))
 }
 
@@ -516,6 +548,7 @@ fn receive<D: Desk>(
     ensures then { IfOk result (λ s. GoesOn via place line.now (D.view desk.new) s) }
     ensures made { OnOk result (Made D.view D.does via place line.now desk.old desk.new) }
     ensures err { OnErr result (SameLine (D.view desk.old) (D.view desk.new)) }
+    ensures keeps { OnErr result (D.keeps desk.old desk.new) }
     ensures grows { Grows (D.view desk.old).material (D.view desk.new).material }
 {
     let Deed::Rx { datagram, .. } = &line.deed else {
@@ -558,6 +591,7 @@ fn settled<D: Desk>(
         (stage.Used hold.now (used.Settled s) (settled_answer s hold.now packet.now))) }
     ensures made { OnOk result (Made D.view D.does via place line.now desk.old desk.new) }
     ensures err { OnErr result (SameLine (D.view desk.old) (D.view desk.new)) }
+    ensures keeps { OnErr result (D.keeps desk.old desk.new) }
     ensures grows { Grows (D.view desk.old).material (D.view desk.new).material }
 {
     let Deed::Rx { from, datagram } = &line.deed else {

@@ -5,7 +5,12 @@ use Rattle.clap.specs.Words.{first_value, rows_of}
 use Rattle.clap.specs.declared.parser.matches.Found.{Found}
 use Rattle.clap.proofs.WalkLemmas.{first_value-rows}
 use Rattle.ov_plan.specs.declared.words.Mode.{Mode}
-use Rattle.ov_plan.specs.Plan.{IsMode, IsSchedule, mode_name, schedule_text}
+use Rattle.ov_plan.specs.Plan.{IsMode, IsPlan, IsSchedule, mode_name, mode_word, schedule_text}
+use Rattle.ov_plan.specs.declared.words.RunPlan.{RunPlan}
+
+-- The words of a plan have its mode's word as MODE.
+pub mode_word_is : (words : List (List ℕ)) (plan : RunPlan) → IsPlan words plan → mode_word words ≡ mode_name plan.mode
+mode_word_is words plan is = ap (λ o. unwrap_or o []) is.plans.mode
 
 module _ (f : Found) where
   -- The word is that of a mode, or of none.

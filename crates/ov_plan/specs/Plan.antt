@@ -4,7 +4,7 @@ use Rattle.std.specs.List.{AllByRecursion, join_with_byte}
 use Rattle.clap.specs.Words.{Row, fault_of, first_of, matches_of}
 use Rattle.ov_plan.specs.Command.{command, number_of}
 use Rattle.ov_plan.specs.declared.words.Mode.{Mode}
-use Rattle.ov_plan.specs.declared.words.Mode.TheVariants.{Trace, Steps}
+use Rattle.ov_plan.specs.declared.words.Mode.TheVariants.{Trace, Steps, Make}
 use Rattle.ov_plan.specs.declared.words.RunPlan.{RunPlan}
 
 -- A text is the decimal number of one of the 64 lanes.
@@ -26,6 +26,7 @@ HasSchedule text = (lanes : List ℕ) × IsSchedule text lanes
 abbrev pub mode_name : Mode → List ℕ
 mode_name Trace = codes "trace"
 mode_name Steps = codes "steps"
+mode_name Make = codes "make"
 
 -- MODE is the mode's word in the matches.
 abbrev pub IsMode : List Row → Mode → Type 0
@@ -52,6 +53,10 @@ pub record Plans (rows : List Row) (plan : RunPlan) : Type 0 where
 pub record IsPlan (words : List (List ℕ)) (plan : RunPlan) : Type 0 where
   pub matched : fault_of command words ≡ []
   pub plans : Plans (matches_of command words) plan
+
+-- The word that words have as MODE, and the empty one where they have none.
+abbrev pub mode_word : List (List ℕ) → List ℕ
+mode_word words = unwrap_or (first_of (codes "mode") (matches_of command words)) []
 
 -- Words are those of a plan.
 abbrev pub HasPlan : List (List ℕ) → Type 0

@@ -54,7 +54,8 @@ const VERSION: &str = "ovpn 0.1.0\n";
 const HELP: &str = r#"ovpn: the data path of the Linux OpenVPN driver, as a verified program
 
 It reads a script of JSON lines on standard input (commands, packets to send,
-datagrams received), runs it, and writes a report on standard output.
+datagrams received) or makes one, runs it, and writes a report on standard
+output.
 
 Usage: ovpn MODE [options]
 
@@ -62,15 +63,20 @@ Modes:
   trace  each line runs to its end, in the order of the script
   steps  the lanes take turns by --schedule, an event each; behind it each lane
          in turn runs to its end
+  make   a script is made from --seed and --count and run as by trace; nothing
+         is read, and the report's last line alone is written, the summary
 
 Options, which every mode reads and holds to their ranges:
-  --first-id N      the first packet id of every key, 1 to 4294967295 (1)
+  --first-id N      in trace and steps, the first packet id of every key,
+                    1 to 4294967295 (1)
   --schedule LANES  in steps, the lanes that take the first turns: numbers from
                     0 to 63, joined by commas (none)
   --lanes N         1 to 64 (4); no mode uses it yet
   --head N          0 to 262144 (0); no mode uses it yet
-  --seed N          0 to 4294967295 (1); no mode uses it yet
-  --count N         1 to 100000 (1000); no mode uses it yet
+  --seed N          in make, what keys and packets are made from,
+                    0 to 4294967295 (1)
+  --count N         in make, how many packets and datagrams there are,
+                    1 to 100000 (1000)
   --turns N         1 to 4294967295 (1000); no mode uses it yet
   --port N          1 to 65344 (1194); no mode uses it yet
 The default stands in brackets.

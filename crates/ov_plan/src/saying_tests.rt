@@ -34,7 +34,7 @@ fn three_words_ask_for_a_text_each_alone(rt: HostRuntime) {
     asks(&rt, rt.alloc(), &["--version"], Some(About::Version));
     asks(&rt, rt.alloc(), &[], None);
     for word in [
-        "", "help", "-help", "--hel", "--help=", "-H", "-V", "version", "trace",
+        "", "help", "-help", "--hel", "--help=", "-H", "-V", "version", "trace", "make",
     ] {
         asks_for_nothing(&rt, rt.alloc(), word);
     }
@@ -83,6 +83,7 @@ fn the_help_names_each_mode_and_each_status(rt: HostRuntime) {
     for row in [
         "\n  trace  ",
         "\n  steps  ",
+        "\n  make   ",
         "\n  0  ",
         "\n  1  ",
         "\n  2  ",

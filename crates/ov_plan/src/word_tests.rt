@@ -83,6 +83,7 @@ impl Range {
     fn holds(&self, rt: &impl Abort, alloc: Global) {
         self.holds_in(rt, alloc, "trace");
         self.holds_in(rt, alloc, "steps");
+        self.holds_in(rt, alloc, "make");
         for text in ["", "x", "1.5", "0x10", " 1", "1 "] {
             is_usage(rt, alloc, &["trace", self.option, text]);
         }
@@ -188,6 +189,9 @@ fn another_first_word_is_no_mode(rt: HostRuntime) {
         "trac",
         "traces",
         "step",
+        "Make",
+        "mak",
+        "made",
         "--trace",
         "-t",
         "--",
@@ -204,6 +208,7 @@ fn another_word_behind_the_mode_is_no_option(rt: HostRuntime) {
     for word in [
         "trace",
         "steps",
+        "make",
         "--lane",
         "--first_id",
         "--help",
@@ -259,4 +264,26 @@ fn other_texts_are_no_schedule(rt: HostRuntime) {
         is_usage(&rt, rt.alloc(), &["trace", "--schedule", text]);
         is_usage(&rt, rt.alloc(), &["steps", "--schedule", text]);
     }
+}
+
+/// The plan of these words makes a script of this seed and count.
+fn makes(rt: &impl Abort, alloc: Global, texts: &[&str], seed: u32, count: u32) {
+    let plan = plan_of(rt, alloc, texts);
+    assert_eq!(rt; plan.mode, Mode::Make);
+    assert_eq!(rt; plan.seed, seed);
+    assert_eq!(rt; plan.count, count);
+}
+
+#[test]
+fn a_made_script_has_the_seed_and_the_count_of_the_words(rt: HostRuntime) {
+    makes(&rt, rt.alloc(), &["make"], 1, 1000);
+    makes(&rt, rt.alloc(), &["make", "--seed", "7"], 7, 1000);
+    makes(&rt, rt.alloc(), &["make", "--count", "4"], 1, 4);
+    makes(
+        &rt,
+        rt.alloc(),
+        &["--count=100000", "--seed=0", "make"],
+        0,
+        100_000,
+    );
 }

@@ -13,34 +13,36 @@ use ov_base::ListOf;
 use std::alloc::Global;
 use thiserror::Error;
 
-/// How the lines of a script are run.
+/// Which script is run, and how.
 #[derive(Clone, Copy, Debug, PartialEq, Eq)]
 pub enum Mode {
     /// Each line to its end, in the script's order.
     Trace,
     /// The lanes take turns, by a schedule.
     Steps,
+    /// The script is made from a seed and a count, and nothing is read: each line to its end, in the script's order.
+    Make,
 }
 
 /// What a run is to do. An option that the mode doesn't use has no effect.
 #[derive(Debug, Drop)]
 pub struct RunPlan {
     pub mode: Mode,
-    /// How many lanes run, from 1 to 64. Neither mode uses it.
+    /// How many lanes run, from 1 to 64. No mode uses it.
     pub lanes: u32,
-    /// How many lines run before the others, from 0 to 262144. Neither mode uses it.
+    /// How many lines run before the others, from 0 to 262144. No mode uses it.
     pub head: u32,
-    /// The packet id that the counter of each key begins at, from 1.
+    /// The packet id that the counter of each key begins at, from 1. `Make` doesn't use it.
     pub first_id: u32,
-    /// The lanes that take the first turns, each from 0 to 63. `Trace` doesn't use them.
+    /// The lanes that take the first turns, each from 0 to 63. `Steps` alone uses them.
     pub schedule: ListOf<u32>,
-    /// The seed of a generated script. Neither mode uses it.
+    /// The seed that a script is made from. `Make` alone uses it.
     pub seed: u32,
-    /// How many lines a generated script has, from 1 to 100000. Neither mode uses it.
+    /// How many lines a made script has behind its head, from 1 to 100000. `Make` alone uses it.
     pub count: u32,
-    /// How many turns a lane makes over a link, from 1. Neither mode uses it.
+    /// How many turns a lane makes over a link, from 1. No mode uses it.
     pub turns: u32,
-    /// The lowest UDP port of a lane's links, from 1 to 65344. Neither mode uses it.
+    /// The lowest UDP port of a lane's links, from 1 to 65344. No mode uses it.
     pub port: u16,
 }
 
@@ -64,6 +66,8 @@ fn mode_named(name: &str) -> Option<Mode>
         Some(Mode::Trace)
     } else if name == "steps" {
         Some(Mode::Steps)
+    } else if name == "make" {
+        Some(Mode::Make)
     } else {
         None
     }
@@ -94,8 +98,8 @@ fn schedule_of(alloc: Global, matches: &ArgMatches<'_>) -> Result<ListOf<u32>, P
     }
 }
 
-/// The plan of the words behind the program's name: MODE, which is `trace` or `steps`, and options, each given
-/// once at most and with one value. All options are read and held to their ranges in every mode.
+/// The plan of the words behind the program's name: MODE, which is `trace`, `steps` or `make`, and options, each
+/// given once at most and with one value. All options are read and held to their ranges in every mode.
 ///
 /// | Option | Range | Default |
 /// |---|---|---|

@@ -1,12 +1,16 @@
 //! What no clause says: that the definitions are the rule that was meant, and that a call succeeds.
 
+ghost use Rattle.std.specs.Prelude.{◌≡◌, ◌<◌, ◌%◌, ℕ, slice_get};
+ghost use Rattle.ov_model.specs.Limits.{shard_count};
+ghost use Rattle.ov_replay.specs.Desk.{IsDeskSeat, is_new, part_at};
+
 use crate::plain::PlainWindow;
 use crate::{DeskSeat, ReplayDesk, Shard, Window};
+use ov_base::ListOf;
 use ov_model::Verdict::{Accept, Again, Below, Old, Zero};
 use ov_model::{Place, ReplayEntry, Verdict};
 use std::alloc::Global;
 use std::process::Abort;
-use std::test::Fail;
 
 /// A step of a course: row, id, moment, verdict.
 type Step = (u32, u32, u32, Verdict);
@@ -156,57 +160,71 @@ static WINDOW_EDGES: [Step; 130] = [
     (47, 9, 4294967295, Accept),
 ];
 
+/// What the ring and the list judge, which is the same.
+fn judged(rt: &impl Abort, ring: &mut Window, list: &mut PlainWindow, id: u32, at: u32) -> Verdict {
+    let Ok(by_ring) = ring.step(id, at) else {
+        panic!(rt; "no memory");
+    };
+    let Ok(by_list) = list.step(id, at) else {
+        panic!(rt; "no memory");
+    };
+    assert_eq!(rt;
+        by_ring,
+        by_list,
+        "id {id} at {at}, by the ring and by the list"
+    );
+    by_ring
+}
+
+/// A step of a row gets its verdict from the ring and from the list.
+fn gets(rt: &impl Abort, ring: &mut Window, list: &mut PlainWindow, step: Step) {
+    let (row, id, at, verdict) = step;
+    assert_eq!(rt;
+        judged(rt, ring, list, id, at),
+        verdict,
+        "row {row}, id {id}"
+    );
+}
+
 /// Steps the ring and the list through all rows.
-fn take_courses(rt: &impl Abort, alloc: Global, steps: &[Step]) -> Result<(), Fail> {
+fn take_courses(rt: &impl Abort, alloc: Global, steps: &[Step]) {
     let mut current = 0;
     let mut ring = Window::new();
     let mut list = PlainWindow::new(alloc);
-    for (row, id, at, verdict) in steps {
-        if *row != current {
-            current = *row;
+    for step in steps {
+        if step.0 != current {
+            current = step.0;
             ring = Window::new();
             list = PlainWindow::new(alloc);
         }
-        assert_eq!(rt;
-            ring.step(*id, *at)?,
-            *verdict,
-            "row {row}, id {id}, by the ring"
-        );
-        assert_eq!(rt;
-            list.step(*id, *at)?,
-            *verdict,
-            "row {row}, id {id}, by the list"
-        );
+        gets(rt, &mut ring, &mut list, *step);
     }
-    Ok(())
 }
 
 #[test]
-fn edges_of_the_window_get_the_verdicts_of_the_table(rt: HostRuntime) -> Result<(), Fail> {
-    take_courses(&rt, rt.alloc(), &WINDOW_EDGES)
+fn edges_of_the_window_get_the_verdicts_of_the_table(rt: HostRuntime) {
+    take_courses(&rt, rt.alloc(), &WINDOW_EDGES);
 }
 
 #[test]
-fn distance_2047_is_in_reach_and_2048_is_old(rt: HostRuntime) -> Result<(), Fail> {
+fn distance_2047_is_in_reach_and_2048_is_old(rt: HostRuntime) {
     let steps = [
         (1, 3000, 0, Accept),
         (1, 953, 0, Accept),
         (1, 952, 0, Old),
         (1, 0, 0, Zero),
     ];
-    take_courses(&rt, rt.alloc(), &steps)
+    take_courses(&rt, rt.alloc(), &steps);
 }
 
 #[test]
-fn thirty_seconds_after_the_last_accept_all_is_below_the_floor(
-    rt: HostRuntime,
-) -> Result<(), Fail> {
+fn thirty_seconds_after_the_last_accept_all_is_below_the_floor(rt: HostRuntime) {
     let steps = [(1, 10, 0, Accept), (1, 9, 29, Accept), (1, 8, 59, Below)];
-    take_courses(&rt, rt.alloc(), &steps)
+    take_courses(&rt, rt.alloc(), &steps);
 }
 
 #[test]
-fn marks_are_kept_over_a_jump_of_2047(rt: HostRuntime) -> Result<(), Fail> {
+fn marks_are_kept_over_a_jump_of_2047(rt: HostRuntime) {
     let steps = [
         (1, 1, 0, Accept),
         (1, 2048, 0, Accept),
@@ -215,7 +233,7 @@ fn marks_are_kept_over_a_jump_of_2047(rt: HostRuntime) -> Result<(), Fail> {
         (1, 2049, 0, Accept),
         (1, 2048, 0, Old),
     ];
-    take_courses(&rt, rt.alloc(), &steps)
+    take_courses(&rt, rt.alloc(), &steps);
 }
 
 /// The next of a row of numbers that look random, from 0 to 2 ^ 31 - 1: Knuth's MMIX generator.
@@ -238,82 +256,125 @@ fn near(highest: u32, state: &mut u64) -> u32 {
     }
 }
 
-#[test]
-fn the_ring_and_the_list_agree_on_mixed_steps(rt: HostRuntime) -> Result<(), Fail> {
-    let mut state = 2026;
-    for course in 0..60_u32 {
-        let mut ring = Window::new();
-        let mut list = PlainWindow::new(rt.alloc());
-        let mut highest = if course % 3 == 0 { u32::MAX - 4000 } else { 1 };
-        let mut at: u32 = 0;
-        for step in 0..300_u32 {
-            let id = near(highest, &mut state);
-            at = match draw(&mut state) % 40 {
-                0 => at.saturating_add(29),
-                1 => at.saturating_add(30),
-                2 => at.saturating_add(31),
-                3 => at.saturating_sub(20),
-                4..9 => at.saturating_add(1),
-                _ => at,
-            };
-            let verdict = ring.step(id, at)?;
-            assert_eq!(rt;
-                verdict,
-                list.step(id, at)?,
-                "course {course}, step {step}, id {id} at {at}"
-            );
-            if verdict == Accept {
-                highest = highest.max(id);
-            }
+/// The moment of the next step: mostly the same, and at times near the end of the quiet seconds.
+fn later(at: u32, state: &mut u64) -> u32 {
+    match draw(state) % 40 {
+        0 => at.saturating_add(29),
+        1 => at.saturating_add(30),
+        2 => at.saturating_add(31),
+        3 => at.saturating_sub(20),
+        4..9 => at.saturating_add(1),
+        _ => at,
+    }
+}
+
+/// Takes the ring and the list through 300 mixed steps, the first of them near an id.
+fn take_mixed_steps(
+    rt: &impl Abort,
+    ring: &mut Window,
+    list: &mut PlainWindow,
+    first: u32,
+    state: &mut u64,
+) {
+    let mut highest = first;
+    let mut at: u32 = 0;
+    for _step in 0..300_u32 {
+        let id = near(highest, state);
+        at = later(at, state);
+        if judged(rt, ring, list, id, at) == Accept {
+            highest = highest.max(id);
         }
     }
-    Ok(())
 }
 
 #[test]
-fn each_key_of_a_shard_has_a_window_of_its_own(rt: HostRuntime) -> Result<(), Fail> {
+fn the_ring_and_the_list_agree_on_mixed_steps(rt: HostRuntime) {
+    let mut state = 2026;
+    for course in 0..60_u32 {
+        let first = if course % 3 == 0 { u32::MAX - 4000 } else { 1 };
+        let mut ring = Window::new();
+        let mut list = PlainWindow::new(rt.alloc());
+        take_mixed_steps(&rt, &mut ring, &mut list, first, &mut state);
+    }
+}
+
+/// A step of packet id 7 at a shard gets this verdict.
+fn steps(rt: &impl Abort, shard: &mut Shard, place: Place, key: u32, at: u32, wanted: Verdict)
+    requires { key % shard_count ≡ shard.old.number }
+    ensures { shard.new.number ≡ shard.old.number }
+{
+    let Ok(verdict) = shard.step(place, key, 7, at) else {
+        panic!(rt; "no memory");
+    };
+    assert_eq!(rt; verdict, wanted);
+}
+
+/// The entry of a step of packet id 7.
+fn entry(place: Place, key: u32, at: u32, moment: u32, verdict: Verdict) -> ReplayEntry {
+    ReplayEntry {
+        place,
+        key,
+        id: 7,
+        at,
+        moment,
+        verdict,
+    }
+}
+
+/// The history of a shard is this one.
+fn ends_with(rt: &impl Abort, shard: Shard, wanted: &[ReplayEntry]) {
+    let history = shard.finish();
+    assert_eq!(rt; history.as_slice(), wanted);
+}
+
+#[test]
+fn each_key_of_a_shard_has_a_window_of_its_own(rt: HostRuntime) {
     let first = Place { lane: 0, line: 4 };
     let second = Place { lane: 1, line: 0 };
     let third = Place { lane: 0, line: 5 };
     let mut shard = Shard::new(rt.alloc(), 3);
-    assert_eq!(rt; shard.step(first, 3, 7, 10)?, Accept);
-    assert_eq!(rt; shard.step(second, 11, 7, 9)?, Accept);
-    assert_eq!(rt; shard.step(third, 3, 7, 8)?, Again);
-    let history = shard.finish();
+    steps(&rt, &mut shard, first, 3, 10, Accept);
+    steps(&rt, &mut shard, second, 11, 9, Accept);
+    steps(&rt, &mut shard, third, 3, 8, Again);
     let entries = [
-        ReplayEntry {
-            place: first,
-            key: 3,
-            id: 7,
-            at: 10,
-            moment: 10,
-            verdict: Accept,
-        },
-        ReplayEntry {
-            place: second,
-            key: 11,
-            id: 7,
-            at: 9,
-            moment: 9,
-            verdict: Accept,
-        },
-        ReplayEntry {
-            place: third,
-            key: 3,
-            id: 7,
-            at: 8,
-            moment: 10,
-            verdict: Again,
-        },
+        entry(first, 3, 10, 10, Accept),
+        entry(second, 11, 9, 9, Accept),
+        entry(third, 3, 8, 10, Again),
     ];
-    assert_eq!(rt; history.as_slice(), entries.as_slice());
-    Ok(())
+    ends_with(&rt, shard, &entries);
+}
+
+/// A seat of no desk.
+fn no_seat(rt: &impl Abort, alloc: Global) -> DeskSeat {
+    let Ok(seat) = DeskSeat::none(alloc) else {
+        panic!(rt; "no memory");
+    };
+    seat
+}
+
+/// A desk without a step, and its seat.
+fn new_desk(rt: &impl Abort, alloc: Global) -> (ReplayDesk, DeskSeat)
+    ensures of { IsDeskSeat result.0 result.1 }
+    ensures new { (s : ℕ) → s < shard_count → part_at result.1 s ≡ is_new (slice_get result.0 s) }
+{
+    let Ok(made) = ReplayDesk::new(alloc) else {
+        panic!(rt; "no memory");
+    };
+    made
+}
+
+/// Shard 3 has two steps, the last of them at a place, and shard 4 has one.
+fn are_told(rt: &impl Abort, shards: &[ListOf<ReplayEntry>], last: Place) {
+    assert_eq!(rt; shards.len(), 8);
+    assert_eq!(rt; shards[3].len(), 2);
+    assert_eq!(rt; shards[3].as_slice()[1].place, last);
+    assert_eq!(rt; shards[4].len(), 1);
 }
 
 #[test]
-fn two_seats_of_a_desk_share_the_window_of_a_key(rt: HostRuntime) -> Result<(), Fail> {
-    let none = DeskSeat::none(rt.alloc())?;
-    let (desk, seat) = ReplayDesk::new(rt.alloc())?;
+fn two_seats_of_a_desk_share_the_window_of_a_key(rt: HostRuntime) {
+    let none = no_seat(&rt, rt.alloc());
+    let (desk, seat) = new_desk(&rt, rt.alloc());
     let (mut one, mut two) = desk.split(seat, none);
     let first = Place { lane: 0, line: 0 };
     let second = Place { lane: 1, line: 0 };
@@ -323,12 +384,8 @@ fn two_seats_of_a_desk_share_the_window_of_a_key(rt: HostRuntime) -> Result<(), 
     let other = desk.step(&rt, &mut two, third, 12, 7, 10);
     let seat = desk.join(one, two);
     let shards = desk.close(seat).into_vec();
+    are_told(&rt, shards.as_slice(), second);
     assert_eq!(rt; accepted, Ok(Accept));
     assert_eq!(rt; again, Ok(Again));
     assert_eq!(rt; other, Ok(Accept));
-    assert_eq!(rt; shards.len(), 8);
-    assert_eq!(rt; shards[3].len(), 2);
-    assert_eq!(rt; shards[3].as_slice()[1].place, second);
-    assert_eq!(rt; shards[4].len(), 1);
-    Ok(())
 }

@@ -8,15 +8,12 @@ pub mod laws;
 mod listed;
 pub mod page;
 pub mod print;
-#[cfg(test)]
-mod print_tests;
 pub mod summary;
-#[cfg(test)]
-mod tests;
 pub mod text;
 
 pub use answer::answer_line;
 pub use differ::keys_differ;
 pub use page::PrintStop;
 pub use print::{entry_line, note_line, replay_line};
+pub use summary::summary_line;
 pub use text::print_report;

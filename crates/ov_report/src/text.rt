@@ -9,10 +9,9 @@ ghost use Rattle.ov_report.specs.Printing.{Passed, Stopped, full_page};
 
 use crate::listed::print_list;
 use crate::page::{PrintStop, flush, pass};
-use crate::summary::summary;
+use crate::summary::append_summary;
 use ov_base::{ListOf, Sink};
 use ov_model::{LaneLog, ReplayEntry, Report};
-use ov_text::{append, append_value};
 use std::alloc::Global;
 
 /// Prints the replay steps of the shards in turn.
@@ -78,9 +77,7 @@ fn print_summary<K: Sink>(
     ensures later { K.faults sink.old ≤ K.faults sink.new }
     ensures kept { OnOk result (K.faults sink.new ≡ K.faults sink.old) }
 {
-    let counts = summary(alloc, report)?;
-    append_value(alloc, page, &counts)?;
-    append(page, b"\n")?;
+    append_summary(alloc, page, report)?;
     pass(page, sink)
 }
 

@@ -1,8 +1,10 @@
 -- What is known of a run's report, and of the lines that were counted.
-use Rattle.std.proofs.Common.{ℕ, suc, ◌≡◌, List, map, slice_get, [], ◌∷◌, ◌++◌, append-nil, subst, length, refl, sym, ap, ◌∙◌, arith, inl, inr}
+use Rattle.std.proofs.Common.{ℕ, suc, ◌≡◌, ◌≢◌, List, map, slice_get, [], ◌∷◌, ◌++◌, append-nil, subst, length, refl, sym, ap, ◌∙◌, arith, inl, inr, Bool}
 use Rattle.std.specs.Prelude.{Option, Some, None, Result, Err, IfSome}
 use Rattle.std.specs.List.{AllByRecursion}
 use Rattle.std.specs.Io.KnownBytes.{IsAtEnd}
+use Rattle.std.proofs.lemmas.List.{append_cancel_right}
+use Rattle.ov_base.specs.Outside.{Rose}
 use Rattle.ov_model.specs.declared.line.Line.{Line}
 use Rattle.ov_model.specs.declared.line.Script.{Script}
 use Rattle.ov_model.specs.declared.report.Report.{Report}
@@ -12,10 +14,13 @@ use Rattle.ov_core.specs.Sessions.{Lane, log_of}
 use Rattle.ov_script.specs.Reading as reading
 use Rattle.ov_script.specs.Reading.{AreLines, Gave, GaveSome, IsScript, HasNoStop, Counts, whole_lines, Event, bad_line, passed, stop_of}
 use Rattle.ov_plan.specs.declared.words.Mode.{Mode}
-use Rattle.ov_plan.specs.declared.words.Mode.TheVariants.{Trace, Steps}
+use Rattle.ov_plan.specs.declared.words.Mode.TheVariants.{Trace, Steps, Make}
 use Rattle.ov_plan.specs.declared.words.RunPlan.{RunPlan}
-use Rattle.ov_plan.specs.Plan.{IsPlan}
-use Rattle.ov_run.specs.Clauses.{Answered, Read, Reported, Runs, RunsIn, EndsBy, Counted, CountedRun, cause_of, cause_of_stop, IsTold, lanes_read}
+use Rattle.ov_plan.specs.Plan.{IsPlan, mode_name}
+use Rattle.ov_plan.proofs.Matches.{mode_word_is}
+use Rattle.ov_made.specs.Made.{made}
+use Rattle.std.specs.Str.{bytes_eq}
+use Rattle.ov_run.specs.Clauses.{Answered, Read, IsRead, IsGiven, IsGivenIn, Reported, Runs, RunsIn, EndsBy, WrotePart, Counted, CountedRun, is_made, makes, first_id, cause_of, cause_of_stop, IsTold, lanes_read}
 use Rattle.ov_script.specs.declared.script.ReadStop.{ReadStop}
 use Rattle.ov_script.specs.declared.script.ReadStop.TheVariants as stop
 use Rattle.ov_run.specs.declared.ended.Cause.{Cause}
@@ -29,6 +34,7 @@ logs_plain (lane ∷ lanes) = ((refl, refl), logs_plain lanes)
 runs_plain : (mode : Mode) (first : ℕ) (schedule : List ℕ) (script : Script) (report : Report) → RunsIn mode first schedule script report → AllByRecursion (λ log. (log.recorded ≡ 0) × (log.unsent ≡ [])) report.lanes
 runs_plain Trace first schedule script report runs = rw runs.report_is (logs_plain runs.last.lanes)
 runs_plain Steps first schedule script report runs = rw runs.report_is (logs_plain runs.last.lanes)
+runs_plain Make first schedule script report runs = rw runs.report_is (logs_plain runs.last.lanes)
 
 -- A log with as many answers as lines, none of which came from a link.
 all_answered : (logs : List LaneLog) → AllByRecursion (λ log. (log.recorded ≡ 0) × (log.unsent ≡ [])) logs → ((lane : ℕ) (log : LaneLog) → slice_get logs lane ≡ Some log → length log.answers ≡ length log.lines) → AllByRecursion Answered logs
@@ -38,21 +44,48 @@ all_answered (log ∷ logs) plain each = (
   all_answered logs plain.1 (λ lane l at. each (suc lane) l at),
 )
 
--- What is known of a report, as one fact: its script is that of the bytes that were read.
-pub reported : (words : List (List ℕ)) (plan : RunPlan) (before now : Option (List ℕ)) (report : Option Report) (script : Script) → IsPlan words plan → IfSome report (Runs plan script) → IfSome report (Legal script plan.first_id) → IfSome report (λ r. length r.lanes ≡ lanes_read)
-    → IsAtEnd now → ((taken : List ℕ) → Gave before now taken → (now ≡ Some []) × IsScript taken lanes_read script) → ((taken : List ℕ) → Gave before now taken → HasNoStop taken lanes_read) → IfSome report (Reported words before now)
-reported words plan before now None script is_plan runs legal lanes ended read no_stop = tt
-reported words plan before now (Some r) script is_plan runs legal lanes ended read no_stop = record {
+-- Whether words ask for a made script is what their plan's mode says.
+made_by : (mode : Mode) → bytes_eq (mode_name mode) (mode_name Make) ≡ makes mode
+made_by Trace = refl
+made_by Steps = refl
+made_by Make = refl
+
+pub asked : (words : List (List ℕ)) (plan : RunPlan) → IsPlan words plan → is_made words ≡ makes plan.mode
+asked words plan is = ap (λ (w : List ℕ). bytes_eq w (mode_name Make)) (mode_word_is words plan is) ∙ made_by plan.mode
+
+-- The script of a mode that isn't make.
+read_in : (mode : Mode) (seed count : ℕ) (before now : Option (List ℕ)) (script : Script) → mode ≢ Make → IsRead before now script → IsGivenIn mode seed count before now script
+read_in Trace seed count before now script other read = read
+read_in Steps seed count before now script other read = read
+read_in Make seed count before now script other read = absurd (other refl)
+
+-- The script of bytes that were read to their end.
+pub was_given : (plan : RunPlan) (before now : Option (List ℕ)) (script : Script) → plan.mode ≢ Make → IsAtEnd now → ((taken : List ℕ) → Gave before now taken → (now ≡ Some []) × IsScript taken lanes_read script) → ((taken : List ℕ) → Gave before now taken → HasNoStop taken lanes_read) → IsGiven plan before now script
+was_given plan before now script other ended read no_stop = read_in plan.mode plan.seed plan.count before now script other (record {
+  ended = ended;
+  read = λ taken gave. let its : (now ≡ Some []) × IsScript taken lanes_read script = read taken gave in
+      (its.0, record { no_stop = no_stop taken gave; is_script = its.1 });
+})
+
+-- The script that a plan's seed and count stand for, where nothing was read.
+pub was_made : (plan : RunPlan) (held : Option (List ℕ)) (script : Script) → plan.mode ≡ Make → script ≡ made plan.seed plan.count → IsGiven plan held held script
+was_made plan held script make is =
+    let P : Mode → Type 0 = λ m. IsGivenIn m plan.seed plan.count held held script in
+    subst P (sym make) (is, refl)
+
+-- What is known of a report, as one fact, with where its script is from.
+pub reported : (words : List (List ℕ)) (plan : RunPlan) (before now : Option (List ℕ)) (report : Option Report) (script : Script) → IsPlan words plan → IfSome report (Runs plan script) → IfSome report (Legal script (first_id plan)) → IfSome report (λ r. length r.lanes ≡ lanes_read)
+    → IsGiven plan before now script → IfSome report (Reported words before now)
+reported words plan before now None script is_plan runs legal lanes given = tt
+reported words plan before now (Some r) script is_plan runs legal lanes given = record {
   plan = plan;
   is_plan = is_plan;
   script = script;
   runs = runs;
   legal = legal;
   lanes = lanes;
-  answered = all_answered r.lanes (runs_plain plan.mode plan.first_id plan.schedule script r runs) (λ lane log at. (legal.lanes.each lane log at).answered);
-  ended = ended;
-  read = λ taken gave. let its : (now ≡ Some []) × IsScript taken lanes_read script = read taken gave in
-      (its.0, record { no_stop = no_stop taken gave; is_script = its.1 });
+  answered = all_answered r.lanes (runs_plain plan.mode (first_id plan) plan.schedule script r runs) (λ lane log at. (legal.lanes.each lane log at).answered);
+  given = given;
 }
 
 -- As many lines were read as the stream has.
@@ -66,19 +99,33 @@ counted_run : (taken : List ℕ) (good : ℕ) (report : Option Report) → good 
 counted_run taken good None is = tt
 counted_run taken good (Some report) is = is
 
-counted_by : (taken : List ℕ) (good : ℕ) (report : Option Report) (c : Cause) (old new : Option (List ℕ)) (before now : ℕ) → EndsBy old new before now report c → good ≡ length (whole_lines taken) → Counted taken good report c
-counted_by taken good report cause.Fine old new before now ends is = is
-counted_by taken good report cause.WriteFault old new before now ends is = is
-counted_by taken good report cause.Memory old new before now ends is = counted_run taken good report is
-counted_by taken good report cause.Usage old new before now ends is = absurd ends
-counted_by taken good report (cause.BadLine n) old new before now ends is = absurd ends
-counted_by taken good report (cause.Limit l) old new before now ends is = absurd ends
-counted_by taken good report cause.ReadFault old new before now ends is = absurd ends
+counted_by : (taken : List ℕ) (good : ℕ) (report : Option Report) (c : Cause) (b : Bool) (old new : Option (List ℕ)) (before now : ℕ) → EndsBy b old new before now report c → good ≡ length (whole_lines taken) → Counted taken good report c
+counted_by taken good report cause.Fine b old new before now ends is = is
+counted_by taken good report cause.WriteFault b old new before now ends is = is
+counted_by taken good report cause.Memory b old new before now ends is = counted_run taken good report is
+counted_by taken good report cause.Usage b old new before now ends is = absurd ends
+counted_by taken good report (cause.BadLine n) b old new before now ends is = absurd ends
+counted_by taken good report (cause.Limit l) b old new before now ends is = absurd ends
+counted_by taken good report cause.ReadFault b old new before now ends is = absurd ends
 
 -- A script that was read whole and run has as many good lines as the stream has lines.
-pub all_counted : (taken : List ℕ) (script : Script) (good lines : ℕ) (report : Option Report) (c : Cause) (old new : Option (List ℕ)) (before now : ℕ) → IsScript taken lanes_read script → good ≡ length script.lines → lines ≡ good → EndsBy old new before now report c → Counted taken lines report c
-all_counted taken script good lines report c old new before now is_script count same ends =
-    counted_by taken lines report c old new before now ends (same ∙ count ∙ lengths lanes_read (whole_lines taken) script.lines is_script.lines)
+pub all_counted : (taken : List ℕ) (script : Script) (good lines : ℕ) (report : Option Report) (c : Cause) (b : Bool) (old new : Option (List ℕ)) (before now : ℕ) → IsScript taken lanes_read script → good ≡ length script.lines → lines ≡ good → EndsBy b old new before now report c → Counted taken lines report c
+all_counted taken script good lines report c b old new before now is_script count same ends =
+    counted_by taken lines report c b old new before now ends (same ∙ count ∙ lengths lanes_read (whole_lines taken) script.lines is_script.lines)
+
+-- Where a source has what it had, it gave nothing, which has no line.
+pub none_counted : (held : Option (List ℕ)) (taken : List ℕ) (lines : ℕ) (report : Option Report) (c : Cause) (b : Bool) (old new : Option (List ℕ)) (before now : ℕ) → Gave held held taken → lines ≡ 0 → EndsBy b old new before now report c → Counted taken lines report c
+none_counted held taken lines report c b old new before now gave none ends =
+    let P : List ℕ → Type 0 = λ l. lines ≡ length (whole_lines l) in
+    let same : taken ++ gave.left ≡ gave.left = cc (gave.had, gave.has) in
+    let nothing : taken ≡ [] = append_cancel_right taken [] gave.left same in
+    counted_by taken lines report c b old new before now ends (subst P (sym nothing) none)
+
+-- What was written in part, by the words: they ask for the text that the run's mode has.
+pub wrote_part : (c : Cause) (b d : Bool) (old new : Option (List ℕ)) (before now : ℕ) (report : Option Report) → d ≡ b → EndsBy b old new before now report c → c ≡ cause.WriteFault → Rose before now × WrotePart d old new report
+wrote_part c b d old new before now report same ends is =
+    let e : EndsBy b old new before now report cause.WriteFault = subst (λ (k : Cause). EndsBy b old new before now report k) is ends in
+    subst (λ (x : Bool). Rose before now × WrotePart x old new report) (sym same) e
 
 -- What is counted where reading stopped.
 pub stop_counted : (taken : List ℕ) (good : ℕ) (s : ReadStop) → Counts lanes_read taken (Err s) good → Counted taken good None (cause_of_stop s)
@@ -117,12 +164,22 @@ was_read (stop.Bad n) is = cc
 was_read (stop.Limit l) is = cc
 was_read stop.Memory is = cc
 
--- A source that told what it held, and is at its end, gave all of it: so a report is legal for its script.
-pub read_all : (words : List (List ℕ)) (held now : List ℕ) (report : Option Report) → GaveSome (Some held) (Some now) → IfSome report (Reported words (Some held) (Some now)) → IfSome report (λ r. (plan : RunPlan) × IsPlan words plan × ((script : Script) × Read held script × Legal script plan.first_id r))
-read_all words held now None gave is = tt
-read_all words held now (Some r) gave is =
-    let P : List ℕ → Type 0 = λ b. (script : Script) × Read b script × Legal script is.plan.first_id r in
+-- A source that told what it held, and is at its end, gave all of it: so a script that was read is the script of it.
+read_held : (held now : List ℕ) (script : Script) → GaveSome (Some held) (Some now) → IsRead (Some held) (Some now) script → Read held script
+read_held held now script gave is =
+    let P : List ℕ → Type 0 = λ b. Read b script in
     let had : held ≡ gave.0 ++ gave.1.left = cc (gave.1.had) in
     let left : gave.1.left ≡ [] = cc (gave.1.has, is.ended) in
     let all : gave.0 ≡ held = sym (append-nil gave.0) ∙ ap (λ (l : List ℕ). gave.0 ++ l) (sym left) ∙ sym had in
-    (is.plan, is.is_plan, subst P all (is.script, (is.read gave.0 gave.1).1, is.legal))
+    subst P all (is.read gave.0 gave.1).1
+
+read_unless : (mode : Mode) (seed count : ℕ) (before now : Option (List ℕ)) (script : Script) → mode ≢ Make → IsGivenIn mode seed count before now script → IsRead before now script
+read_unless Trace seed count before now script other is = is
+read_unless Steps seed count before now script other is = is
+read_unless Make seed count before now script other is = absurd (other refl)
+
+-- So a report is legal for the script of what the source held, unless the script was made.
+pub read_all : (words : List (List ℕ)) (held now : List ℕ) (report : Option Report) → GaveSome (Some held) (Some now) → IfSome report (Reported words (Some held) (Some now)) → IfSome report (λ r. (plan : RunPlan) × IsPlan words plan × ((script : Script) × (plan.mode ≢ Make → Read held script) × Legal script (first_id plan) r))
+read_all words held now None gave is = tt
+read_all words held now (Some r) gave is =
+    (is.plan, is.is_plan, (is.script, (λ other. read_held held now is.script gave (read_unless is.plan.mode is.plan.seed is.plan.count (Some held) (Some now) is.script other is.given)), is.legal))

@@ -1,8 +1,9 @@
 -- What the program promises of one run. A clause on the bytes that were read, or on the script that they
 -- are, holds where the source tells what it holds; one on the bytes that were written, where the sink does.
-use Rattle.std.specs.Prelude.{None, ℕ, ◌+◌, ◌<◌, ◌≡◌, ◌⊎◌, List, [], length, Option, Some, ⊤}
+use Rattle.std.specs.Prelude.{None, ℕ, ◌+◌, ◌<◌, ◌≡◌, ◌⊎◌, List, [], length, Option, Some, ⊤, Bool, true, false, if◌then◌else◌}
 use Rattle.std.specs.List.{AllByRecursion}
 use Rattle.std.specs.Io.KnownBytes.{Appends, IsAtEnd, Keeps}
+use Rattle.std.specs.Str.{bytes_eq}
 use Rattle.ov_base.specs.Outside.{Rose}
 use Rattle.ov_base.specs.Loops.{AppendsPart}
 use Rattle.ov_model.specs.declared.line.Script.{Script}
@@ -12,13 +13,14 @@ use Rattle.ov_model.specs.Legal.{Legal}
 use Rattle.ov_model.specs.Via.{via_of}
 use Rattle.ov_core.specs.Sessions.{Serial, Scheduled}
 use Rattle.ov_plan.specs.declared.words.Mode.{Mode}
-use Rattle.ov_plan.specs.declared.words.Mode.TheVariants.{Trace, Steps}
+use Rattle.ov_plan.specs.declared.words.Mode.TheVariants.{Trace, Steps, Make}
 use Rattle.ov_plan.specs.declared.words.RunPlan.{RunPlan}
-use Rattle.ov_plan.specs.Plan.{IsPlan}
+use Rattle.ov_plan.specs.Plan.{IsPlan, mode_name, mode_word}
+use Rattle.ov_made.specs.Made.{made}
 use Rattle.ov_script.specs.Reading.{Gave, IsScript, HasNoStop, Early, Stop, Event, bad_line, passed, cut, whole_lines, CountsTo}
 use Rattle.ov_script.specs.declared.script.ReadStop.{ReadStop}
 use Rattle.ov_script.specs.declared.script.ReadStop.TheVariants as stop
-use Rattle.ov_report.specs.Summary.{report_text}
+use Rattle.ov_report.specs.Summary.{report_text, summary_text}
 use Rattle.ov_report.specs.Printing.{full_page}
 use Rattle.ov_run.specs.declared.ended.Cause.{Cause}
 use Rattle.ov_run.specs.declared.ended.Cause.TheVariants as cause
@@ -54,15 +56,37 @@ IsStop cause.ReadFault = ⊤
 IsStop cause.WriteFault = ⊥
 IsStop cause.Memory = ⊥
 
+-- Whether a mode makes its script. All others read it.
+abbrev pub makes : Mode → Bool
+makes Trace = false
+makes Steps = false
+makes Make = true
+
+-- Whether words ask for a script that is made: MODE is the word of the mode that makes its script.
+abbrev pub is_made : List (List ℕ) → Bool
+is_made words = bytes_eq (mode_word words) (mode_name Make)
+
+-- The first packet id of every key in a mode: the words', and 1 where the script is made.
+abbrev pub first_in : Mode → ℕ → ℕ
+first_in Trace first = first
+first_in Steps first = first
+first_in Make first = 1
+
+-- The first packet id of every key by a plan.
+abbrev pub first_id : RunPlan → ℕ
+first_id plan = first_in plan.mode plan.first_id
+
 -- The report of a mode.
 abbrev pub RunsIn : Mode → ℕ → List ℕ → Script → Report → Type 0
 RunsIn Trace first schedule script report = Serial (via_of script.routes) script first report
 RunsIn Steps first schedule script report = Scheduled (via_of script.routes) script first schedule report
+RunsIn Make first schedule script report = Serial (via_of script.routes) script first report
 
 -- The report is that of the plan's mode: each line to its end in the script's order, or by the plan's
--- schedule. The first packet id of every key is the plan's, and the routes are the script's.
+-- schedule. The first packet id of every key is the plan's, or 1 where the script is made, and the routes are the
+-- script's.
 abbrev pub Runs : RunPlan → Script → Report → Type 0
-Runs plan script report = RunsIn plan.mode plan.first_id plan.schedule script report
+Runs plan script report = RunsIn plan.mode (first_id plan) plan.schedule script report
 
 -- The script of the bytes that were read.
 pub record Read (taken : List ℕ) (script : Script) : Type 0 where
@@ -76,30 +100,51 @@ pub record Answered (log : LaneLog) : Type 0 where
   pub recorded : log.recorded ≡ 0
   pub unsent : log.unsent ≡ []
 
+-- A script that was read: the source is at its end, and where it tells what it holds, the script is that of what
+-- it gave.
+pub record IsRead (before now : Option (List ℕ)) (script : Script) : Type 0 where
+  pub ended : IsAtEnd now
+  pub read : (taken : List ℕ) → Gave before now taken → (now ≡ Some []) × Read taken script
+
+-- Where the script of a mode comes from: it was read, or it is made from a seed and a count, and the source has
+-- what it had.
+abbrev pub IsGivenIn : Mode → ℕ → ℕ → Option (List ℕ) → Option (List ℕ) → Script → Type 0
+IsGivenIn Trace seed count before now script = IsRead before now script
+IsGivenIn Steps seed count before now script = IsRead before now script
+IsGivenIn Make seed count before now script = (script ≡ made seed count) × (now ≡ before)
+
+-- The script is that of the plan's mode: the one that was read, or the one of the plan's seed and count.
+abbrev pub IsGiven : RunPlan → Option (List ℕ) → Option (List ℕ) → Script → Type 0
+IsGiven plan before now script = IsGivenIn plan.mode plan.seed plan.count before now script
+
 -- A report: it is that of the words' plan and of a script, legal for it, and has 64 lanes, each of whose lines
--- has its answer. Where the source tells what it holds, it is at its end, and the script is that of what it gave.
+-- has its answer. The script is the one that was read, or, by the plan's mode, the one that its seed and its count
+-- stand for.
 pub record Reported (words : List (List ℕ)) (before now : Option (List ℕ)) (report : Report) : Type 0 where
   pub plan : RunPlan
   pub is_plan : IsPlan words plan
   pub script : Script
   pub runs : Runs plan script report
-  pub legal : Legal script plan.first_id report
+  pub legal : Legal script (first_id plan) report
   pub lanes : length report.lanes ≡ lanes_read
   pub answered : AllByRecursion Answered report.lanes
-  pub ended : IsAtEnd now
-  pub read : (taken : List ℕ) → Gave before now taken → (now ≡ Some []) × Read taken script
+  pub given : IsGiven plan before now script
 
--- A report's text was written whole.
-pub record Wrote (before now : Option (List ℕ)) (report : Option Report) : Type 0 where
+-- The text that is written of a report: all of its text, or where the script was made the summary's line alone.
+abbrev pub text_if : Bool → Report → List ℕ
+text_if was_made report = if was_made then summary_text report else report_text report
+
+-- The text of a report was written whole.
+pub record Wrote (was_made : Bool) (before now : Option (List ℕ)) (report : Option Report) : Type 0 where
   pub it : Report
   pub is : report ≡ Some it
-  pub whole : Appends before now (report_text it)
+  pub whole : Appends before now (text_if was_made it)
 
--- A report's text was written in part.
-pub record WrotePart (before now : Option (List ℕ)) (report : Option Report) : Type 0 where
+-- The text of a report was written in part.
+pub record WrotePart (was_made : Bool) (before now : Option (List ℕ)) (report : Option Report) : Type 0 where
   pub it : Report
   pub is : report ≡ Some it
-  pub part : AppendsPart before now (report_text it)
+  pub part : AppendsPart before now (text_if was_made it)
 
 -- Where a stop came from: the bytes that were read show it while the source may go on, or the source is
 -- at its end and all its bytes have it.
@@ -108,24 +153,24 @@ ComesFrom before now event = (taken : List ℕ) → Gave before now taken → Ea
 
 -- What was written where memory was wanting: nothing before there was a report, and then a part of its
 -- text, from the front and not to the end, which is nothing of a text that fills no page.
-abbrev pub WroteNoMore : Option (List ℕ) → Option (List ℕ) → Option Report → Type 0
-WroteNoMore old new None = new ≡ old
-WroteNoMore old new (Some report) = AppendsPart old new (report_text report) × (length (report_text report) < full_page → Keeps old new)
+abbrev pub WroteNoMore : Bool → Option (List ℕ) → Option (List ℕ) → Option Report → Type 0
+WroteNoMore was_made old new None = new ≡ old
+WroteNoMore was_made old new (Some report) = AppendsPart old new (text_if was_made report) × (length (text_if was_made report) < full_page → Keeps old new)
 
--- What a run that read its script whole ended with: all of the report's text was written, or a part of it
+-- What a run that has its script ended with: all of the report's text was written, or a part of it
 -- where a write failed or memory was wanting, or nothing where there was no memory for the report.
-abbrev pub EndsBy : Option (List ℕ) → Option (List ℕ) → ℕ → ℕ → Option Report → Cause → Type 0
-EndsBy old new before now report cause.Fine = Wrote old new report
-EndsBy old new before now report cause.WriteFault = Rose before now × WrotePart old new report
-EndsBy old new before now report cause.Memory = WroteNoMore old new report
-EndsBy old new before now report cause.Usage = ⊥
-EndsBy old new before now report (cause.BadLine n) = ⊥
-EndsBy old new before now report (cause.Limit l) = ⊥
-EndsBy old new before now report cause.ReadFault = ⊥
+abbrev pub EndsBy : Bool → Option (List ℕ) → Option (List ℕ) → ℕ → ℕ → Option Report → Cause → Type 0
+EndsBy was_made old new before now report cause.Fine = Wrote was_made old new report
+EndsBy was_made old new before now report cause.WriteFault = Rose before now × WrotePart was_made old new report
+EndsBy was_made old new before now report cause.Memory = WroteNoMore was_made old new report
+EndsBy was_made old new before now report cause.Usage = ⊥
+EndsBy was_made old new before now report (cause.BadLine n) = ⊥
+EndsBy was_made old new before now report (cause.Limit l) = ⊥
+EndsBy was_made old new before now report cause.ReadFault = ⊥
 
--- How a run that read its script whole ended, by its cause.
-abbrev pub Ran : Option (List ℕ) → Option (List ℕ) → ℕ → ℕ → Ended → Type 0
-Ran old new before now ended = EndsBy old new before now ended.report ended.cause
+-- How a run that has its script ended, by its cause.
+abbrev pub Ran : Bool → Option (List ℕ) → Option (List ℕ) → ℕ → ℕ → Ended → Type 0
+Ran was_made old new before now ended = EndsBy was_made old new before now ended.report ended.cause
 
 -- How many lines were found good, where memory was wanting: all of them where the script was run; before
 -- that nothing is said.

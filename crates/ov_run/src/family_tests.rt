@@ -4,22 +4,19 @@
 
 use crate::ended::Cause;
 use crate::packet_tests::{
-    KEY_ANSWER, KEY_MADE, KEY5, PEER_ANSWER, PEER_MADE, PEER5, RECEIVE5, SEND5, ends_with, text,
+    KEY_ANSWER, KEY_MADE, KEY5, PEER_ANSWER, PEER_MADE, PEER5, RECEIVE5, SEND5, ends_in, text,
     written,
 };
-use crate::tests::{cause_of, run};
-use ov_base::Memory;
+use crate::tests::{ends_by, spaced};
+use itoa::Buffer;
 use ov_script::Limit;
-use std::alloc::Global;
-use std::test::Fail;
+use std::process::Abort;
 
 /// All peers are asked for.
 const DUMP: &str = r#"{"at":0,"do":"peer-dump","lane":0}"#;
 
 #[test]
-fn a_taken_vpn_address_is_refused_and_a_dump_shows_the_one_peer(
-    rt: HostRuntime,
-) -> Result<(), Fail> {
+fn a_taken_vpn_address_is_refused_and_a_dump_shows_the_one_peer(rt: HostRuntime) {
     written(
         &rt,
         rt.alloc(),
@@ -38,11 +35,11 @@ fn a_taken_vpn_address_is_refused_and_a_dump_shows_the_one_peer(
             r#"{"answer":{"peers":[{"id":5,"keepalive-interval":0,"keepalive-timeout":0,"link-rx-bytes":0,"link-rx-packets":0,"link-tx-bytes":0,"link-tx-packets":0,"remote-ipv4":"192.0.2.1","remote-port":1194,"vpn-ipv4":"10.8.0.5","vpn-rx-bytes":0,"vpn-rx-packets":0,"vpn-tx-bytes":0,"vpn-tx-packets":0}]},"lane":0,"line":2}"#,
             r#"{"summary":{"accepted":0,"answers":3,"bad-tag":0,"delivered":0,"journal":3,"keys":0,"keys-differ":true,"notes":0,"peers":1,"refused":0,"released":0,"sealed":0}}"#,
         ],
-    )
+    );
 }
 
 #[test]
-fn a_dump_shows_the_peers_by_rising_id_as_they_were_set(rt: HostRuntime) -> Result<(), Fail> {
+fn a_dump_shows_the_peers_by_rising_id_as_they_were_set(rt: HostRuntime) {
     written(
         &rt,
         rt.alloc(),
@@ -70,11 +67,11 @@ fn a_dump_shows_the_peers_by_rising_id_as_they_were_set(rt: HostRuntime) -> Resu
             r#"{"answer":{"peers":[{"id":5,"keepalive-interval":10,"keepalive-timeout":60,"link-rx-bytes":0,"link-rx-packets":0,"link-tx-bytes":0,"link-tx-packets":0,"remote-ipv4":"192.0.2.7","remote-port":1195,"vpn-ipv4":"10.8.0.5","vpn-ipv6":"fd000000000000000000000000000005","vpn-rx-bytes":0,"vpn-rx-packets":0,"vpn-tx-bytes":0,"vpn-tx-packets":0},{"id":9,"keepalive-interval":0,"keepalive-timeout":0,"link-rx-bytes":0,"link-rx-packets":0,"link-tx-bytes":0,"link-tx-packets":0,"remote-ipv6":"fd0000000000000000000000000000ab","remote-port":65535,"vpn-ipv6":"fd000000000000000000000000000009","vpn-rx-bytes":0,"vpn-rx-packets":0,"vpn-tx-bytes":0,"vpn-tx-packets":0}]},"lane":0,"line":5}"#,
             r#"{"summary":{"accepted":0,"answers":6,"bad-tag":0,"delivered":0,"journal":6,"keys":0,"keys-differ":true,"notes":0,"peers":2,"refused":0,"released":0,"sealed":0}}"#,
         ],
-    )
+    );
 }
 
 #[test]
-fn the_greatest_peer_id_has_24_bits(rt: HostRuntime) -> Result<(), Fail> {
+fn the_greatest_peer_id_has_24_bits(rt: HostRuntime) {
     written(
         &rt,
         rt.alloc(),
@@ -89,11 +86,11 @@ fn the_greatest_peer_id_has_24_bits(rt: HostRuntime) -> Result<(), Fail> {
             r#"{"answer":{"error":22},"lane":0,"line":1}"#,
             r#"{"summary":{"accepted":0,"answers":2,"bad-tag":0,"delivered":0,"journal":1,"keys":0,"keys-differ":true,"notes":0,"peers":1,"refused":0,"released":0,"sealed":0}}"#,
         ],
-    )
+    );
 }
 
 #[test]
-fn a_refused_new_key_makes_no_entry(rt: HostRuntime) -> Result<(), Fail> {
+fn a_refused_new_key_makes_no_entry(rt: HostRuntime) {
     written(
         &rt,
         rt.alloc(),
@@ -115,11 +112,11 @@ fn a_refused_new_key_makes_no_entry(rt: HostRuntime) -> Result<(), Fail> {
             r#"{"answer":{"error":2},"lane":0,"line":4}"#,
             r#"{"summary":{"accepted":0,"answers":5,"bad-tag":0,"delivered":0,"journal":2,"keys":0,"keys-differ":true,"notes":0,"peers":1,"refused":0,"released":0,"sealed":0}}"#,
         ],
-    )
+    );
 }
 
 #[test]
-fn a_swap_empties_the_primary_slot(rt: HostRuntime) -> Result<(), Fail> {
+fn a_swap_empties_the_primary_slot(rt: HostRuntime) {
     written(
         &rt,
         rt.alloc(),
@@ -144,11 +141,11 @@ fn a_swap_empties_the_primary_slot(rt: HostRuntime) -> Result<(), Fail> {
             r#"{"answer":{"key":{"cipher-alg":"aes-gcm","key-id":2,"peer-id":5,"slot":"secondary"}},"lane":0,"line":4}"#,
             r#"{"summary":{"accepted":0,"answers":5,"bad-tag":0,"delivered":0,"journal":5,"keys":1,"keys-differ":true,"notes":0,"peers":1,"refused":0,"released":0,"sealed":0}}"#,
         ],
-    )
+    );
 }
 
 #[test]
-fn a_lost_transport_removes_its_peer_with_the_reason(rt: HostRuntime) -> Result<(), Fail> {
+fn a_lost_transport_removes_its_peer_with_the_reason(rt: HostRuntime) {
     written(
         &rt,
         rt.alloc(),
@@ -169,13 +166,11 @@ fn a_lost_transport_removes_its_peer_with_the_reason(rt: HostRuntime) -> Result<
             r#"{"journal":1,"notify":"peer-del-ntf","peer":{"del-reason":"transport-error","id":5}}"#,
             r#"{"summary":{"accepted":0,"answers":3,"bad-tag":0,"delivered":0,"journal":4,"keys":0,"keys-differ":true,"notes":1,"peers":1,"refused":0,"released":1,"sealed":0}}"#,
         ],
-    )
+    );
 }
 
 #[test]
-fn a_deleted_key_that_is_still_held_is_released_by_the_receipt(
-    rt: HostRuntime,
-) -> Result<(), Fail> {
+fn a_deleted_key_that_is_still_held_is_released_by_the_receipt(rt: HostRuntime) {
     written(
         &rt,
         rt.alloc(),
@@ -200,46 +195,63 @@ fn a_deleted_key_that_is_still_held_is_released_by_the_receipt(
             r#"{"answer":{"ok":true},"lane":1,"line":0}"#,
             r#"{"summary":{"accepted":1,"answers":4,"bad-tag":0,"delivered":1,"journal":6,"keys":1,"keys-differ":true,"notes":0,"peers":1,"refused":0,"released":0,"sealed":0}}"#,
         ],
-    )
+    );
 }
 
-/// The line of a peer whose id, VPN address and remote are its number's.
-fn peer_line(alloc: Global, number: u32) -> Result<String, Memory> {
-    let [_, _, high, low] = number.to_be_bytes();
-    Ok(format!(in alloc;
-        "{{\"at\":0,\"do\":\"peer-new\",\"lane\":0,\"peer\":{{\"id\":{number},\"remote-ipv4\":\"192.168.{high}.{low}\",\"remote-port\":1194,\"vpn-ipv4\":\"10.8.{high}.{low}\"}}}}\n"
-    )?)
+/// Appends this text.
+fn push_text(rt: &impl Abort, script: &mut Vec<u8>, text: &str) {
+    assert!(rt; script.extend_from_slice(text.as_bytes()).is_ok());
+}
+
+/// Appends this number in decimal digits.
+fn push_number(rt: &impl Abort, script: &mut Vec<u8>, number: u32) {
+    let mut digits = Buffer::new();
+    push_text(rt, script, digits.format(number));
+}
+
+/// Appends the line of a peer whose id, VPN address and remote are its number's.
+fn push_peer(rt: &impl Abort, script: &mut Vec<u8>, number: u32) {
+    let (high, low) = (number / 256, number % 256);
+    push_text(
+        rt,
+        script,
+        r#"{"at":0,"do":"peer-new","lane":0,"peer":{"id":"#,
+    );
+    push_number(rt, script, number);
+    push_text(rt, script, r#","remote-ipv4":"192.168."#);
+    push_number(rt, script, high);
+    push_text(rt, script, ".");
+    push_number(rt, script, low);
+    push_text(rt, script, r#"","remote-port":1194,"vpn-ipv4":"10.8."#);
+    push_number(rt, script, high);
+    push_text(rt, script, ".");
+    push_number(rt, script, low);
+    push_text(rt, script, "\"}}\n");
 }
 
 #[test]
-fn no_peer_past_the_limit_is_made(rt: HostRuntime) -> Result<(), Fail> {
+fn no_peer_past_the_limit_is_made(rt: HostRuntime) {
     let mut script = Vec::new(rt.alloc());
-    for number in 0..4097 {
-        script.extend_from_slice(peer_line(rt.alloc(), number)?.as_bytes())?;
+    for number in 0..4097_u32 {
+        push_peer(&rt, &mut script, number);
     }
-    let (status, written) = run(rt.alloc(), &["trace"], script.as_slice(), &[], &[])?;
-    assert_eq!(rt; status, 0);
-    let end = text(
+    ends_in(
+        &rt,
         rt.alloc(),
+        script.as_slice(),
         &[
             r#"{"answer":{"serial":4095},"lane":0,"line":4095}"#,
             r#"{"answer":{"error":28},"lane":0,"line":4096}"#,
             r#"{"summary":{"accepted":0,"answers":4097,"bad-tag":0,"delivered":0,"journal":4097,"keys":0,"keys-differ":true,"notes":0,"peers":4096,"refused":0,"released":0,"sealed":0}}"#,
         ],
-    )?;
-    assert!(rt; ends_with(written.as_slice(), end.as_slice()));
-    Ok(())
+    );
 }
 
 #[test]
-fn a_bad_third_line_and_an_overlong_line_run_nothing(rt: HostRuntime) -> Result<(), Fail> {
-    let script = text(rt.alloc(), &[PEER5, KEY5, "{"])?;
-    assert_eq!(rt; cause_of(rt.alloc(), script.as_slice())?, Cause::BadLine(3));
-    let mut long = Vec::new(rt.alloc());
-    long.resize(262_145, b' ')?;
-    assert_eq!(rt;
-        cause_of(rt.alloc(), long.as_slice())?,
-        Cause::Limit(Limit::LineBytes)
-    );
-    Ok(())
+fn a_bad_third_line_and_an_overlong_line_run_nothing(rt: HostRuntime) {
+    let alloc = rt.alloc();
+    let script = text(&rt, alloc, &[PEER5, KEY5, "{"]);
+    ends_by(&rt, alloc, script.as_slice(), Cause::BadLine(3));
+    let long = spaced(&rt, alloc, b"", 262_145);
+    ends_by(&rt, alloc, long.as_slice(), Cause::Limit(Limit::LineBytes));
 }

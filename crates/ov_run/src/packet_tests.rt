@@ -6,11 +6,9 @@
 //! head, the tag and the ciphertext. The expected lines are written by hand.
 
 use crate::ended::Cause;
-use crate::tests::{cause_of, run};
-use ov_base::Memory;
+use crate::tests::{ends_by, run, writes};
 use std::alloc::Global;
 use std::process::Abort;
-use std::test::Fail;
 
 /// A peer with id 5.
 pub const PEER5: &str =
@@ -54,39 +52,48 @@ pub const PEER_ANSWER: &str = r#"{"answer":{"serial":0},"lane":0,"line":0}"#;
 
 pub const KEY_ANSWER: &str = r#"{"answer":{"serial":0},"lane":0,"line":1}"#;
 
+/// Appends this line and its end.
+pub fn push_line(rt: &impl Abort, bytes: &mut Vec<u8>, line: &str) {
+    assert!(rt; bytes.extend_from_slice(line.as_bytes()).is_ok());
+    assert!(rt; bytes.push(b'\n').is_ok());
+}
+
 /// These lines, each with its end.
-pub fn text(alloc: Global, lines: &[&str]) -> Result<Vec<u8>, Memory> {
+pub fn text(rt: &impl Abort, alloc: Global, lines: &[&str]) -> Vec<u8> {
     let mut bytes = Vec::new(alloc);
     for line in lines {
-        bytes.extend_from_slice(line.as_bytes())?;
-        bytes.push(b'\n')?;
+        push_line(rt, &mut bytes, *line);
     }
-    Ok(bytes)
+    bytes
+}
+
+/// The status is 0, and the text ends with this one.
+fn is_end(rt: &impl Abort, status: u8, text: &[u8], end: &[u8]) {
+    assert_eq!(rt; status, 0);
+    assert!(rt; text.ends_with(end));
+}
+
+/// A run of each line of a script to its end has the status 0, and its text ends with these lines.
+pub fn ends_in(rt: &impl Abort, alloc: Global, script: &[u8], lines: &[&str]) {
+    let end = text(rt, alloc, lines);
+    let (status, written) = run(rt, alloc, &["trace"], script, &[], &[]);
+    is_end(rt, status, written.as_slice(), end.as_slice());
 }
 
 /// Runs a script of these lines with these words; the whole text that is written must be these lines of a report.
-pub fn written(
-    rt: &impl Abort,
-    alloc: Global,
-    words: &[&str],
-    script: &[&str],
-    report: &[&str],
-) -> Result<(), Fail> {
-    let script = text(alloc, script)?;
-    let report = text(alloc, report)?;
-    let (status, written) = run(alloc, words, script.as_slice(), &[], &[])?;
-    assert_eq!(rt; status, 0);
-    assert_eq!(rt; written.as_slice(), report.as_slice());
-    Ok(())
+pub fn written(rt: &impl Abort, alloc: Global, words: &[&str], script: &[&str], report: &[&str]) {
+    let script = text(rt, alloc, script);
+    let report = text(rt, alloc, report);
+    writes(rt, alloc, words, script.as_slice(), 0, report.as_slice());
 }
 
 /// Runs each line of a script to its end; the whole text that is written must be these lines of a report.
-fn gives(rt: &impl Abort, alloc: Global, script: &[&str], report: &[&str]) -> Result<(), Fail> {
-    written(rt, alloc, &["trace"], script, report)
+fn gives(rt: &impl Abort, alloc: Global, script: &[&str], report: &[&str]) {
+    written(rt, alloc, &["trace"], script, report);
 }
 
 #[test]
-fn the_first_packet_is_sealed_with_id_1_and_counted(rt: HostRuntime) -> Result<(), Fail> {
+fn the_first_packet_is_sealed_with_id_1_and_counted(rt: HostRuntime) {
     gives(
         &rt,
         rt.alloc(),
@@ -103,11 +110,11 @@ fn the_first_packet_is_sealed_with_id_1_and_counted(rt: HostRuntime) -> Result<(
             r#"{"answer":{"peer":{"id":5,"keepalive-interval":0,"keepalive-timeout":0,"link-rx-bytes":0,"link-rx-packets":0,"link-tx-bytes":44,"link-tx-packets":1,"remote-ipv4":"192.0.2.1","remote-port":1194,"vpn-ipv4":"10.8.0.5","vpn-rx-bytes":0,"vpn-rx-packets":0,"vpn-tx-bytes":20,"vpn-tx-packets":1}},"lane":0,"line":3}"#,
             r#"{"summary":{"accepted":0,"answers":4,"bad-tag":0,"delivered":0,"journal":5,"keys":1,"keys-differ":true,"notes":0,"peers":1,"refused":0,"released":0,"sealed":1}}"#,
         ],
-    )
+    );
 }
 
 #[test]
-fn a_replaced_key_is_released(rt: HostRuntime) -> Result<(), Fail> {
+fn a_replaced_key_is_released(rt: HostRuntime) {
     gives(
         &rt,
         rt.alloc(),
@@ -122,11 +129,11 @@ fn a_replaced_key_is_released(rt: HostRuntime) -> Result<(), Fail> {
             r#"{"answer":{"serial":1},"lane":0,"line":2}"#,
             r#"{"summary":{"accepted":0,"answers":3,"bad-tag":0,"delivered":0,"journal":4,"keys":2,"keys-differ":false,"notes":0,"peers":1,"refused":0,"released":0,"sealed":0}}"#,
         ],
-    )
+    );
 }
 
 #[test]
-fn a_datagram_is_delivered_once(rt: HostRuntime) -> Result<(), Fail> {
+fn a_datagram_is_delivered_once(rt: HostRuntime) {
     gives(
         &rt,
         rt.alloc(),
@@ -145,11 +152,11 @@ fn a_datagram_is_delivered_once(rt: HostRuntime) -> Result<(), Fail> {
             r#"{"answer":{"dropped":"again"},"lane":0,"line":3}"#,
             r#"{"summary":{"accepted":1,"answers":4,"bad-tag":0,"delivered":1,"journal":5,"keys":1,"keys-differ":true,"notes":0,"peers":1,"refused":1,"released":0,"sealed":0}}"#,
         ],
-    )
+    );
 }
 
 #[test]
-fn a_wrong_tag_leaves_the_packet_id_fresh(rt: HostRuntime) -> Result<(), Fail> {
+fn a_wrong_tag_leaves_the_packet_id_fresh(rt: HostRuntime) {
     gives(
         &rt,
         rt.alloc(),
@@ -167,11 +174,11 @@ fn a_wrong_tag_leaves_the_packet_id_fresh(rt: HostRuntime) -> Result<(), Fail> {
             r#"{"answer":{"delivered":{"packet":"4500001400000000401100000a0800050a080005","peer":5}},"lane":0,"line":3}"#,
             r#"{"summary":{"accepted":1,"answers":4,"bad-tag":1,"delivered":1,"journal":5,"keys":1,"keys-differ":true,"notes":0,"peers":1,"refused":0,"released":0,"sealed":0}}"#,
         ],
-    )
+    );
 }
 
 #[test]
-fn short_and_other_datagrams_are_refused_or_passed_on(rt: HostRuntime) -> Result<(), Fail> {
+fn short_and_other_datagrams_are_refused_or_passed_on(rt: HostRuntime) {
     gives(
         &rt,
         rt.alloc(),
@@ -201,12 +208,12 @@ fn short_and_other_datagrams_are_refused_or_passed_on(rt: HostRuntime) -> Result
             r#"{"answer":{"passed":"control"},"lane":0,"line":8}"#,
             r#"{"summary":{"accepted":0,"answers":9,"bad-tag":1,"delivered":0,"journal":3,"keys":1,"keys-differ":true,"notes":0,"peers":1,"refused":0,"released":0,"sealed":0}}"#,
         ],
-    )
+    );
 }
 
 /// The inner packet has the source 10.8.0.6, and is sealed with the key of peer 5.
 #[test]
-fn an_inner_source_of_another_peer_is_not_delivered(rt: HostRuntime) -> Result<(), Fail> {
+fn an_inner_source_of_another_peer_is_not_delivered(rt: HostRuntime) {
     gives(
         &rt,
         rt.alloc(),
@@ -232,11 +239,11 @@ fn an_inner_source_of_another_peer_is_not_delivered(rt: HostRuntime) -> Result<(
             r#"{"answer":{"peer":{"id":5,"keepalive-interval":0,"keepalive-timeout":0,"link-rx-bytes":44,"link-rx-packets":1,"link-tx-bytes":0,"link-tx-packets":0,"remote-ipv4":"192.0.2.1","remote-port":1194,"vpn-ipv4":"10.8.0.5","vpn-rx-bytes":0,"vpn-rx-packets":0,"vpn-tx-bytes":0,"vpn-tx-packets":0}},"lane":0,"line":4}"#,
             r#"{"summary":{"accepted":1,"answers":5,"bad-tag":0,"delivered":0,"journal":6,"keys":1,"keys-differ":true,"notes":0,"peers":2,"refused":0,"released":0,"sealed":0}}"#,
         ],
-    )
+    );
 }
 
 #[test]
-fn a_removed_peer_has_its_keys_released_before_it(rt: HostRuntime) -> Result<(), Fail> {
+fn a_removed_peer_has_its_keys_released_before_it(rt: HostRuntime) {
     gives(
         &rt,
         rt.alloc(),
@@ -260,11 +267,11 @@ fn a_removed_peer_has_its_keys_released_before_it(rt: HostRuntime) -> Result<(),
             r#"{"journal":4,"notify":"peer-del-ntf","peer":{"del-reason":"userspace","id":5}}"#,
             r#"{"summary":{"accepted":0,"answers":6,"bad-tag":0,"delivered":0,"journal":9,"keys":2,"keys-differ":false,"notes":1,"peers":1,"refused":0,"released":1,"sealed":0}}"#,
         ],
-    )
+    );
 }
 
 #[test]
-fn without_a_key_nothing_is_sealed_or_opened(rt: HostRuntime) -> Result<(), Fail> {
+fn without_a_key_nothing_is_sealed_or_opened(rt: HostRuntime) {
     gives(
         &rt,
         rt.alloc(),
@@ -278,38 +285,35 @@ fn without_a_key_nothing_is_sealed_or_opened(rt: HostRuntime) -> Result<(), Fail
             r#"{"answer":{"dropped":"no-key"},"lane":0,"line":2}"#,
             r#"{"summary":{"accepted":0,"answers":3,"bad-tag":0,"delivered":0,"journal":3,"keys":0,"keys-differ":true,"notes":0,"peers":1,"refused":0,"released":0,"sealed":0}}"#,
         ],
-    )
-}
-
-/// Whether `part` stands in `text` with nothing behind it.
-pub fn ends_with(text: &[u8], part: &[u8]) -> bool {
-    part.len() <= text.len() && &text[text.len() - part.len()..] == part
+    );
 }
 
 #[test]
-fn sixty_packets_are_sealed_with_ids_from_1_to_60(rt: HostRuntime) -> Result<(), Fail> {
-    let alloc = rt.alloc();
-    let mut script = text(alloc, &[PEER5, KEY5])?;
-    let line = text(alloc, &[SEND5])?;
+fn sixty_packets_are_sealed_with_ids_from_1_to_60(rt: HostRuntime) {
+    let mut script = text(&rt, rt.alloc(), &[PEER5, KEY5]);
     for _number in 0..60_u32 {
-        script.extend_from_slice(line.as_slice())?;
+        push_line(&rt, &mut script, SEND5);
     }
-    let (status, written) = run(alloc, &["trace"], script.as_slice(), &[], &[])?;
-    assert_eq!(rt; status, 0);
-    let end = text(
-        alloc,
+    ends_in(
+        &rt,
+        rt.alloc(),
+        script.as_slice(),
         &[
             r#"{"answer":{"sealed":{"datagram":"4a0000050000003c28bdc30f074c147792b92e16920a688642775eedc39566903c56e1022ffe3542d7d4dfaa","id":60,"key":0,"to":{"addr":"192.0.2.1","port":1194}}},"lane":0,"line":61}"#,
             r#"{"summary":{"accepted":0,"answers":62,"bad-tag":0,"delivered":0,"journal":122,"keys":1,"keys-differ":true,"notes":0,"peers":1,"refused":0,"released":0,"sealed":60}}"#,
         ],
-    )?;
-    assert!(rt; ends_with(written.as_slice(), end.as_slice()));
-    Ok(())
+    );
+}
+
+/// A script whose third line is this one is told by that line's number, and nothing is written.
+fn is_bad(rt: &impl Abort, alloc: Global, line: &str) {
+    let script = text(rt, alloc, &[PEER5, KEY5, line, SEND5]);
+    ends_by(rt, alloc, script.as_slice(), Cause::BadLine(3));
+    writes(rt, alloc, &["trace"], script.as_slice(), 2, b"");
 }
 
 #[test]
-fn a_bad_line_is_told_by_its_number_and_runs_nothing(rt: HostRuntime) -> Result<(), Fail> {
-    let alloc = rt.alloc();
+fn a_bad_line_is_told_by_its_number_and_runs_nothing(rt: HostRuntime) {
     for bad in [
         "{",
         r#"{"at":0,"do":"key-new","keyconf":{"key-id":"2"},"lane":0}"#,
@@ -324,17 +328,12 @@ fn a_bad_line_is_told_by_its_number_and_runs_nothing(rt: HostRuntime) -> Result<
         r#"{"at":0,"datagram":"4a","do":"rx","from":{"addr":"192.0.2.1","port":65536},"lane":0}"#,
         r#"{"at":0,"do":"rx","from":{"addr":"192.0.2.1","port":1194},"lane":0}"#,
     ] {
-        let script = text(alloc, &[PEER5, KEY5, bad, SEND5])?;
-        assert_eq!(rt; cause_of(alloc, script.as_slice())?, Cause::BadLine(3));
-        let (status, written) = run(alloc, &["trace"], script.as_slice(), &[], &[])?;
-        assert_eq!(rt; status, 2);
-        assert!(rt; written.is_empty());
+        is_bad(&rt, rt.alloc(), bad);
     }
-    Ok(())
 }
 
 #[test]
-fn an_id_2048_below_the_greatest_is_old(rt: HostRuntime) -> Result<(), Fail> {
+fn an_id_2048_below_the_greatest_is_old(rt: HostRuntime) {
     gives(
         &rt,
         rt.alloc(),
@@ -367,11 +366,11 @@ fn an_id_2048_below_the_greatest_is_old(rt: HostRuntime) -> Result<(), Fail> {
             r#"{"answer":{"dropped":"zero"},"lane":0,"line":5}"#,
             r#"{"summary":{"accepted":2,"answers":6,"bad-tag":0,"delivered":2,"journal":8,"keys":1,"keys-differ":true,"notes":0,"peers":1,"refused":2,"released":0,"sealed":0}}"#,
         ],
-    )
+    );
 }
 
 #[test]
-fn what_came_before_a_silence_of_thirty_seconds_is_over(rt: HostRuntime) -> Result<(), Fail> {
+fn what_came_before_a_silence_of_thirty_seconds_is_over(rt: HostRuntime) {
     gives(
         &rt,
         rt.alloc(),
@@ -400,11 +399,11 @@ fn what_came_before_a_silence_of_thirty_seconds_is_over(rt: HostRuntime) -> Resu
             r#"{"answer":{"dropped":"below"},"lane":0,"line":4}"#,
             r#"{"summary":{"accepted":2,"answers":5,"bad-tag":0,"delivered":2,"journal":7,"keys":1,"keys-differ":true,"notes":0,"peers":1,"refused":1,"released":0,"sealed":0}}"#,
         ],
-    )
+    );
 }
 
 #[test]
-fn a_key_at_its_last_id_sends_once_more_and_is_spent(rt: HostRuntime) -> Result<(), Fail> {
+fn a_key_at_its_last_id_sends_once_more_and_is_spent(rt: HostRuntime) {
     written(
         &rt,
         rt.alloc(),
@@ -427,5 +426,5 @@ fn a_key_at_its_last_id_sends_once_more_and_is_spent(rt: HostRuntime) -> Result<
             r#"{"journal":5,"keyconf":{"key-id":2,"peer-id":5},"notify":"key-swap-ntf"}"#,
             r#"{"summary":{"accepted":0,"answers":5,"bad-tag":0,"delivered":0,"journal":8,"keys":1,"keys-differ":true,"notes":1,"peers":1,"refused":0,"released":0,"sealed":1}}"#,
         ],
-    )
+    );
 }

@@ -1,27 +1,33 @@
-//! The top call: words, script, run, report.
+//! The top call: words, script, run, report. The script is read, or made from the words' seed and count.
 
-ghost use Rattle.std.specs.Prelude.{◌≡◌, ◌≢◌, ◌<◌, ◌⊎◌, ℕ, List, None, length, map, string_bytes, IfOk, IfSome};
+ghost use Rattle.std.specs.Prelude.{◌≡◌, ◌≢◌, ◌<◌, ◌⊎◌, ℕ, List, None, length, map, string_bytes, true, false, IfOk, IfSome};
 ghost use Rattle.std.specs.Io.KnownBytes.{IsAtEnd};
 ghost use Rattle.std.specs.List.{AllByRecursion};
 ghost use Rattle.ov_base.specs.Outside.{Rose};
 ghost use Rattle.ov_model.specs.Legal.{Legal};
 ghost use Rattle.ov_model.specs.Sizes.{Fits};
+ghost use Rattle.ov_made.specs.Made as script_made;
 ghost use Rattle.ov_script.specs.Reading as reading;
 ghost use Rattle.ov_run.specs.declared.ended.Cause.TheVariants as cause;
 ghost use Rattle.ov_run.specs.Clauses as spec;
 ghost use Rattle.ov_plan.specs.Plan.{HasPlan};
 
 use crate::ended::{Cause, Ended};
+use crate::written::write_report;
 use ov_base::{Memory, Sink, Source};
 use ov_core::{run_schedule, run_serially};
+use ov_made::made;
 use ov_model::{Report, Script};
 use ov_plan::{Mode, PlanStop, RunPlan, plan};
-use ov_report::{PrintStop, print_report};
+use ov_report::PrintStop;
 use ov_script::{ReadStop, Reading, read_script};
 use std::alloc::Global;
 
 /// The number of lanes: a line's lane is below it, and a report has a log for each.
 const LANES: u32 = 64;
+
+/// The first packet id of each key of a script that is made.
+const MADE_FIRST_ID: u32 = 1;
 
 /// The cause of a stop.
 fn cause_of(stop: ReadStop) -> Cause
@@ -35,22 +41,23 @@ fn cause_of(stop: ReadStop) -> Cause
     }
 }
 
-/// The report of a script that was read whole, by its plan.
+/// The report of a script by its plan.
 fn report_of(alloc: Global, plan: RunPlan, script: Script) -> Result<Report, Memory>
     requires fits { AllByRecursion (λ line. Fits line.deed) script.lines }
     requires lanes { AllByRecursion (λ line. line.lane < spec.lanes_read) script.lines }
     requires schedule { AllByRecursion (λ lane. lane < spec.lanes_read) plan.schedule }
     ensures ran { IfOk result (spec.Runs plan script) }
-    ensures legal { IfOk result (Legal script plan.first_id) }
+    ensures legal { IfOk result (Legal script (spec.first_id plan)) }
     ensures lanes { IfOk result (λ report. length report.lanes ≡ spec.lanes_read) }
 {
     match plan.mode {
         Mode::Trace => run_serially(alloc, script, plan.first_id),
         Mode::Steps => run_schedule(alloc, script, plan.first_id, plan.schedule.as_slice()),
+        Mode::Make => run_serially(alloc, script, MADE_FIRST_ID),
     }
 }
 
-/// Runs a script that was read whole and writes its report.
+/// Runs a script that was read whole or made, and writes what its mode tells of the report.
 fn ran<K: Sink>(
     alloc: Global,
     plan: RunPlan,
@@ -62,13 +69,14 @@ fn ran<K: Sink>(
     requires lanes { AllByRecursion (λ line. line.lane < spec.lanes_read) script.lines }
     requires schedule { AllByRecursion (λ lane. lane < spec.lanes_read) plan.schedule }
     ensures lines { result.read_lines ≡ read_lines }
-    ensures cause { spec.Ran (K.written sink.old) (K.written sink.new) (K.faults sink.old)
-        (K.faults sink.new) result }
+    ensures cause { spec.Ran (spec.makes plan.mode) (K.written sink.old) (K.written sink.new)
+        (K.faults sink.old) (K.faults sink.new) result }
     ensures kept { result.cause ≡ cause.Fine → K.faults sink.new ≡ K.faults sink.old }
     ensures ran { IfSome result.report (spec.Runs plan script) }
-    ensures legal { IfSome result.report (Legal script plan.first_id) }
+    ensures legal { IfSome result.report (Legal script (spec.first_id plan)) }
     ensures lanes { IfSome result.report (λ report. length report.lanes ≡ spec.lanes_read) }
 {
+    let mode = plan.mode;
     let Ok(report) = report_of(alloc, plan, script) else {
         return Ended {
             cause: Cause::Memory,
@@ -77,7 +85,7 @@ fn ran<K: Sink>(
             why: None,
         };
     };
-    let cause = match print_report(alloc, &report, sink) {
+    let cause = match write_report(alloc, mode, &report, sink) {
         Ok(()) => Cause::Fine,
         Err(PrintStop::Write) => Cause::WriteFault,
         Err(PrintStop::Memory) => Cause::Memory,
@@ -90,12 +98,31 @@ fn ran<K: Sink>(
     }
 }
 
+/// Makes the script of a plan's seed and count, runs it, and writes what its mode tells. Nothing is read.
+fn made_ran<K: Sink>(alloc: Global, plan: RunPlan, sink: &mut K) -> Ended
+    requires schedule { AllByRecursion (λ lane. lane < spec.lanes_read) plan.schedule }
+    ensures lines { result.read_lines ≡ 0 }
+    ensures cause { spec.Ran (spec.makes plan.mode) (K.written sink.old) (K.written sink.new)
+        (K.faults sink.old) (K.faults sink.new) result }
+    ensures kept { result.cause ≡ cause.Fine → K.faults sink.new ≡ K.faults sink.old }
+    ensures ran { IfSome result.report (spec.Runs plan (script_made.made plan.seed plan.count)) }
+    ensures legal { IfSome result.report
+        (Legal (script_made.made plan.seed plan.count) (spec.first_id plan)) }
+    ensures lanes { IfSome result.report (λ report. length report.lanes ≡ spec.lanes_read) }
+{
+    match made(alloc, plan.seed, plan.count) {
+        Ok(script) => ran(alloc, plan, script, 0, sink),
+        Err(_) => Ended::unrun(Cause::Memory),
+    }
+}
+
 /// One run of the program: reads the words, then the whole script, runs it, and writes the report.
 /// Nothing is written before the script was read to its end and found good.
 ///
 /// `words` are the words after the program's name. The answer's cause is `Usage` exactly where they are those of
 /// no plan (see `plan`), or `Memory`: `trace` runs each line to its end, and `steps` lets the lanes take turns by
-/// its schedule. The counter of each key begins at the plan's first id.
+/// its schedule. The counter of each key begins at the plan's first id. `make` reads nothing: it makes its script
+/// from the seed and the count, runs each line to its end with packet ids from 1 on, and writes the summary alone.
 pub fn run_serial<S: Source, K: Sink>(
     alloc: Global,
     words: &[String],
@@ -110,10 +137,15 @@ pub fn run_serial<S: Source, K: Sink>(
     ensures unread { ¬ (HasPlan (map string_bytes words.now)) →
         (result.report ≡ None) × (source.new ≡ source.old) × (sink.new ≡ sink.old) }
 
+    // Made: where the words ask for a script that is made, nothing is read.
+    ensures generated { spec.is_made (map string_bytes words.now) ≡ true →
+        (source.new ≡ source.old) × (result.read_lines ≡ 0) }
+
     // Bytes: a source that tells what it has left tells which bytes were taken, and after a run that ended
-    // well it has none left. A fault is exactly what was counted.
+    // well it has none left, but where the script was made. A fault is exactly what was counted.
     ensures taken { reading.GaveSome (S.left source.old) (S.left source.new) }
-    ensures ended { result.cause ≡ cause.Fine → IsAtEnd (S.left source.new) }
+    ensures ended { spec.is_made (map string_bytes words.now) ≡ false →
+        result.cause ≡ cause.Fine → IsAtEnd (S.left source.new) }
     ensures kept { result.cause ≢ cause.ReadFault → S.faults source.new ≡ S.faults source.old }
     ensures sink_kept { result.cause ≡ cause.Fine → K.faults sink.new ≡ K.faults sink.old }
 
@@ -136,16 +168,19 @@ pub fn run_serial<S: Source, K: Sink>(
         (event : reading.Event) → ¬ (reading.Early taken spec.lanes_read event) }
     ensures unrun { spec.IsStop result.cause → (result.report ≡ None) × (sink.new ≡ sink.old) }
 
-    // The report, and what is written of its text.
+    // The report, and what is written of it: of its text, or of the summary's line where the script was made.
     ensures outcome { IfSome result.report (spec.Reported (map string_bytes words.now)
         (S.left source.old) (S.left source.new)) }
     ensures fine { result.cause ≡ cause.Fine →
-        spec.Wrote (K.written sink.old) (K.written sink.new) result.report }
+        spec.Wrote (spec.is_made (map string_bytes words.now)) (K.written sink.old)
+        (K.written sink.new) result.report }
     ensures write_fault { result.cause ≡ cause.WriteFault →
         Rose (K.faults sink.old) (K.faults sink.new) ×
-        spec.WrotePart (K.written sink.old) (K.written sink.new) result.report }
+        spec.WrotePart (spec.is_made (map string_bytes words.now)) (K.written sink.old)
+        (K.written sink.new) result.report }
     ensures memory { result.cause ≡ cause.Memory →
-        spec.WroteNoMore (K.written sink.old) (K.written sink.new) result.report }
+        spec.WroteNoMore (spec.is_made (map string_bytes words.now)) (K.written sink.old)
+        (K.written sink.new) result.report }
 
     // Lines counted: the whole lines that were taken and found good.
     ensures read_lines { (taken : List ℕ) →
@@ -160,6 +195,9 @@ pub fn run_serial<S: Source, K: Sink>(
         Err(PlanStop::Usage) => return Ended::unrun(Cause::Usage),
         Err(PlanStop::Memory) => return Ended::unrun(Cause::Memory),
     };
+    if let Mode::Make = plan.mode {
+        return made_ran(alloc, plan, sink);
+    }
     let Reading { good, why, outcome } = read_script(alloc, source, LANES);
     match outcome {
         Err(stop) => Ended {

@@ -8,17 +8,18 @@
 
 ghost use Rattle.std.specs.Prelude.{◌<◌};
 ghost use Rattle.std.specs.List.{AllByRecursion};
+ghost use Rattle.ov_model.specs.Sizes.{Fits};
 
 use crate::packet_tests::{
     GET5, KEY_ANSWER, KEY_MADE, KEY5, PEER_ANSWER, PEER_MADE, PEER5, RECEIVE5, SEND5, text, written,
 };
-use ov_base::{ListOf, Memory, MemorySink, MemorySource, Octets};
+use ov_base::{ListOf, MemorySink, MemorySource, Octets};
 use ov_core::run_schedule;
+use ov_model::{Report, Script};
 use ov_report::print_report;
 use ov_script::read_script;
 use std::alloc::Global;
 use std::process::Abort;
-use std::test::Fail;
 
 /// The peer, made by lane 1.
 const PEER5_ON_1: &str =
@@ -55,25 +56,14 @@ const DELETE5_ON_1: &str = r#"{"at":0,"do":"peer-del","lane":1,"peer":{"id":5}}"
 const DELETE5_ON_2: &str = r#"{"at":0,"do":"peer-del","lane":2,"peer":{"id":5}}"#;
 
 /// Runs a script of these lines by this schedule; the whole text that is written must be these lines of a report.
-fn steps(
-    rt: &impl Abort,
-    alloc: Global,
-    schedule: &str,
-    script: &[&str],
-    report: &[&str],
-) -> Result<(), Fail> {
-    written(
-        rt,
-        alloc,
-        &["steps", "--schedule", schedule],
-        script,
-        report,
-    )
+fn steps(rt: &impl Abort, alloc: Global, schedule: &str, script: &[&str], report: &[&str]) {
+    let words = ["steps", "--schedule", schedule];
+    written(rt, alloc, &words, script, report);
 }
 
 /// A peer with the same addresses is made meanwhile, and the packet is not its.
 #[test]
-fn a_peer_removed_during_a_receipt_is_released_by_the_receipt(rt: HostRuntime) -> Result<(), Fail> {
+fn a_peer_removed_during_a_receipt_is_released_by_the_receipt(rt: HostRuntime) {
     steps(
         &rt,
         rt.alloc(),
@@ -97,12 +87,12 @@ fn a_peer_removed_during_a_receipt_is_released_by_the_receipt(rt: HostRuntime) -
             r#"{"journal":3,"notify":"peer-del-ntf","peer":{"del-reason":"userspace","id":5}}"#,
             r#"{"summary":{"accepted":1,"answers":5,"bad-tag":0,"delivered":0,"journal":8,"keys":1,"keys-differ":true,"notes":1,"peers":2,"refused":0,"released":1,"sealed":0}}"#,
         ],
-    )
+    );
 }
 
 /// Lane 0 has looked up the peer and drawn no packet id when lane 1 removes it.
 #[test]
-fn a_peer_removed_between_look_up_and_draw_still_sends(rt: HostRuntime) -> Result<(), Fail> {
+fn a_peer_removed_between_look_up_and_draw_still_sends(rt: HostRuntime) {
     steps(
         &rt,
         rt.alloc(),
@@ -123,14 +113,12 @@ fn a_peer_removed_between_look_up_and_draw_still_sends(rt: HostRuntime) -> Resul
             r#"{"journal":3,"notify":"peer-del-ntf","peer":{"del-reason":"userspace","id":5}}"#,
             r#"{"summary":{"accepted":0,"answers":4,"bad-tag":0,"delivered":0,"journal":7,"keys":1,"keys-differ":true,"notes":1,"peers":1,"refused":0,"released":1,"sealed":1}}"#,
         ],
-    )
+    );
 }
 
 /// Both lanes look up, lane 1 draws before lane 0, and lane 2 removes the peer before either counts its datagram.
 #[test]
-fn packet_ids_go_by_the_order_of_draws_and_the_last_lane_releases(
-    rt: HostRuntime,
-) -> Result<(), Fail> {
+fn packet_ids_go_by_the_order_of_draws_and_the_last_lane_releases(rt: HostRuntime) {
     steps(
         &rt,
         rt.alloc(),
@@ -154,12 +142,12 @@ fn packet_ids_go_by_the_order_of_draws_and_the_last_lane_releases(
             r#"{"journal":4,"notify":"peer-del-ntf","peer":{"del-reason":"userspace","id":5}}"#,
             r#"{"summary":{"accepted":0,"answers":5,"bad-tag":0,"delivered":0,"journal":9,"keys":1,"keys-differ":true,"notes":1,"peers":1,"refused":0,"released":1,"sealed":2}}"#,
         ],
-    )
+    );
 }
 
 /// The packet id is accepted, and no live peer has the inner source any more.
 #[test]
-fn a_peer_removed_between_replay_and_settle_gets_nothing(rt: HostRuntime) -> Result<(), Fail> {
+fn a_peer_removed_between_replay_and_settle_gets_nothing(rt: HostRuntime) {
     steps(
         &rt,
         rt.alloc(),
@@ -181,14 +169,12 @@ fn a_peer_removed_between_replay_and_settle_gets_nothing(rt: HostRuntime) -> Res
             r#"{"journal":3,"notify":"peer-del-ntf","peer":{"del-reason":"userspace","id":5}}"#,
             r#"{"summary":{"accepted":1,"answers":4,"bad-tag":0,"delivered":0,"journal":7,"keys":1,"keys-differ":true,"notes":1,"peers":1,"refused":0,"released":1,"sealed":0}}"#,
         ],
-    )
+    );
 }
 
 /// Lane 0 sends and lane 1 receives under the key when lane 2 replaces it. Lane 0 ends first.
 #[test]
-fn a_key_replaced_under_two_lanes_is_released_by_the_receipt_that_ends_last(
-    rt: HostRuntime,
-) -> Result<(), Fail> {
+fn a_key_replaced_under_two_lanes_is_released_by_the_receipt_that_ends_last(rt: HostRuntime) {
     steps(
         &rt,
         rt.alloc(),
@@ -211,14 +197,12 @@ fn a_key_replaced_under_two_lanes_is_released_by_the_receipt_that_ends_last(
             r#"{"answer":{"serial":1},"lane":2,"line":0}"#,
             r#"{"summary":{"accepted":1,"answers":5,"bad-tag":0,"delivered":1,"journal":8,"keys":2,"keys-differ":false,"notes":0,"peers":1,"refused":0,"released":0,"sealed":1}}"#,
         ],
-    )
+    );
 }
 
 /// As before, and lane 1 ends first: it settles, gives back the key and gives back the peer.
 #[test]
-fn a_key_replaced_under_two_lanes_is_released_by_the_sending_that_ends_last(
-    rt: HostRuntime,
-) -> Result<(), Fail> {
+fn a_key_replaced_under_two_lanes_is_released_by_the_sending_that_ends_last(rt: HostRuntime) {
     steps(
         &rt,
         rt.alloc(),
@@ -241,12 +225,12 @@ fn a_key_replaced_under_two_lanes_is_released_by_the_sending_that_ends_last(
             r#"{"answer":{"serial":1},"lane":2,"line":0}"#,
             r#"{"summary":{"accepted":1,"answers":5,"bad-tag":0,"delivered":1,"journal":8,"keys":2,"keys-differ":false,"notes":0,"peers":1,"refused":0,"released":0,"sealed":1}}"#,
         ],
-    )
+    );
 }
 
 /// Lane 0 gives back the key before lane 1 does, and the peer after it.
 #[test]
-fn one_lane_is_the_last_at_the_key_and_the_other_at_the_peer(rt: HostRuntime) -> Result<(), Fail> {
+fn one_lane_is_the_last_at_the_key_and_the_other_at_the_peer(rt: HostRuntime) {
     steps(
         &rt,
         rt.alloc(),
@@ -270,12 +254,12 @@ fn one_lane_is_the_last_at_the_key_and_the_other_at_the_peer(rt: HostRuntime) ->
             r#"{"journal":4,"notify":"peer-del-ntf","peer":{"del-reason":"userspace","id":5}}"#,
             r#"{"summary":{"accepted":1,"answers":5,"bad-tag":1,"delivered":0,"journal":8,"keys":1,"keys-differ":true,"notes":1,"peers":1,"refused":0,"released":1,"sealed":0}}"#,
         ],
-    )
+    );
 }
 
 /// The packet id that the removed peer's key has accepted is fresh under the new peer's key.
 #[test]
-fn a_peer_made_anew_has_its_own_key_and_window(rt: HostRuntime) -> Result<(), Fail> {
+fn a_peer_made_anew_has_its_own_key_and_window(rt: HostRuntime) {
     steps(
         &rt,
         rt.alloc(),
@@ -313,14 +297,12 @@ fn a_peer_made_anew_has_its_own_key_and_window(rt: HostRuntime) -> Result<(), Fa
             r#"{"journal":3,"notify":"peer-del-ntf","peer":{"del-reason":"userspace","id":5}}"#,
             r#"{"summary":{"accepted":2,"answers":7,"bad-tag":0,"delivered":1,"journal":11,"keys":2,"keys-differ":false,"notes":1,"peers":2,"refused":0,"released":1,"sealed":0}}"#,
         ],
-    )
+    );
 }
 
 /// Lane 0 looks up first, and lane 1 makes the first replay step.
 #[test]
-fn a_datagram_on_two_lanes_is_delivered_by_the_first_replay_step(
-    rt: HostRuntime,
-) -> Result<(), Fail> {
+fn a_datagram_on_two_lanes_is_delivered_by_the_first_replay_step(rt: HostRuntime) {
     steps(
         &rt,
         rt.alloc(),
@@ -340,12 +322,12 @@ fn a_datagram_on_two_lanes_is_delivered_by_the_first_replay_step(
             r#"{"answer":{"delivered":{"packet":"4500001400000000401100000a0800050a080005","peer":5}},"lane":1,"line":0}"#,
             r#"{"summary":{"accepted":1,"answers":4,"bad-tag":0,"delivered":1,"journal":5,"keys":1,"keys-differ":true,"notes":0,"peers":1,"refused":1,"released":0,"sealed":0}}"#,
         ],
-    )
+    );
 }
 
 /// Lane 0 sends between the removal and the releases, which stand at lane 1's next turns.
 #[test]
-fn a_removal_owes_its_releases_while_other_lanes_go_on(rt: HostRuntime) -> Result<(), Fail> {
+fn a_removal_owes_its_releases_while_other_lanes_go_on(rt: HostRuntime) {
     steps(
         &rt,
         rt.alloc(),
@@ -365,12 +347,12 @@ fn a_removal_owes_its_releases_while_other_lanes_go_on(rt: HostRuntime) -> Resul
             r#"{"journal":2,"notify":"peer-del-ntf","peer":{"del-reason":"userspace","id":5}}"#,
             r#"{"summary":{"accepted":0,"answers":4,"bad-tag":0,"delivered":0,"journal":6,"keys":1,"keys-differ":true,"notes":1,"peers":1,"refused":0,"released":1,"sealed":0}}"#,
         ],
-    )
+    );
 }
 
 /// Lane 7 has no lines, and lane 1 has one.
 #[test]
-fn a_lane_without_a_line_is_passed_over(rt: HostRuntime) -> Result<(), Fail> {
+fn a_lane_without_a_line_is_passed_over(rt: HostRuntime) {
     steps(
         &rt,
         rt.alloc(),
@@ -385,12 +367,12 @@ fn a_lane_without_a_line_is_passed_over(rt: HostRuntime) -> Result<(), Fail> {
             r#"{"answer":{"error":2},"lane":1,"line":0}"#,
             r#"{"summary":{"accepted":0,"answers":3,"bad-tag":0,"delivered":0,"journal":3,"keys":0,"keys-differ":true,"notes":0,"peers":1,"refused":0,"released":0,"sealed":0}}"#,
         ],
-    )
+    );
 }
 
 /// The second line is no inner packet: it is dropped at its one turn, before any look-up.
 #[test]
-fn a_line_without_an_entry_takes_one_turn(rt: HostRuntime) -> Result<(), Fail> {
+fn a_line_without_an_entry_takes_one_turn(rt: HostRuntime) {
     steps(
         &rt,
         rt.alloc(),
@@ -413,38 +395,57 @@ fn a_line_without_an_entry_takes_one_turn(rt: HostRuntime) -> Result<(), Fail> {
             r#"{"journal":1,"notify":"peer-del-ntf","peer":{"del-reason":"userspace","id":5}}"#,
             r#"{"summary":{"accepted":0,"answers":4,"bad-tag":0,"delivered":0,"journal":4,"keys":0,"keys-differ":true,"notes":1,"peers":1,"refused":0,"released":1,"sealed":0}}"#,
         ],
-    )
+    );
 }
 
-/// The text of a run by a schedule whose keys begin at another packet id, which no word gives.
-fn steps_from(alloc: Global, first: u32, schedule: &[u32], script: &[u8]) -> Result<Octets, Memory>
+/// The script that these bytes say.
+fn script_of(rt: &impl Abort, alloc: Global, text: &[u8]) -> Script
+    ensures fits { AllByRecursion (λ line. Fits line.deed) result.lines }
+    ensures lanes { AllByRecursion (λ line. line.lane < 64) result.lines }
+{
+    let Ok(bytes) = Octets::of(alloc, text) else {
+        panic!(rt; "no memory");
+    };
+    let mut source = MemorySource::new(bytes, 16, ListOf::new(alloc));
+    let Ok(script) = read_script(alloc, &mut source, 64).outcome else {
+        panic!(rt; "no script");
+    };
+    script
+}
+
+/// The text of this report is these bytes.
+fn is_printed(rt: &impl Abort, alloc: Global, report: &Report, text: &[u8]) {
+    let mut sink = MemorySink::new(alloc, 4_096, ListOf::new(alloc));
+    assert!(rt; print_report(alloc, report, &mut sink).is_ok());
+    assert_eq!(rt; sink.written(), text);
+}
+
+/// A run by a schedule whose keys begin at another packet id, which no word gives, writes these bytes.
+fn steps_from(
+    rt: &impl Abort,
+    alloc: Global,
+    first: u32,
+    schedule: &[u32],
+    script: &[u8],
+    text: &[u8],
+)
     requires lanes { AllByRecursion (λ lane. lane < 64) schedule.now }
 {
-    let mut source = MemorySource::new(Octets::of(alloc, script)?, 16, ListOf::new(alloc));
-    let Ok(script) = read_script(alloc, &mut source, 64).outcome else {
-        return Err(Memory);
+    let script = script_of(rt, alloc, script);
+    let Ok(report) = run_schedule(alloc, script, first, schedule) else {
+        panic!(rt; "no memory");
     };
-    let report = run_schedule(alloc, script, first, schedule)?;
-    let mut sink = MemorySink::new(alloc, 4_096, ListOf::new(alloc));
-    if print_report(alloc, &report, &mut sink).is_err() {
-        return Err(Memory);
-    }
-    Octets::of(alloc, sink.written())
+    is_printed(rt, alloc, &report, text);
 }
 
 /// Three lanes look up the key. Lane 1 draws the last packet id there is, and the other two find the key spent:
 /// lane 2 takes it out of its slot, and lane 0 comes too late for that.
 #[test]
-fn a_key_spent_by_two_lanes_is_taken_out_once(rt: HostRuntime) -> Result<(), Fail> {
+fn a_key_spent_by_two_lanes_is_taken_out_once(rt: HostRuntime) {
     let alloc = rt.alloc();
-    let script = text(alloc, &[PEER5, KEY5, SEND5, SEND5_ON_1, SEND5_ON_2])?;
-    let given = steps_from(
-        alloc,
-        4_294_967_295,
-        &[0, 0, 0, 1, 2, 1, 0, 2, 2],
-        script.as_slice(),
-    )?;
+    let script = text(&rt, alloc, &[PEER5, KEY5, SEND5, SEND5_ON_1, SEND5_ON_2]);
     let report = text(
+        &rt,
         alloc,
         &[
             PEER_MADE,
@@ -464,7 +465,13 @@ fn a_key_spent_by_two_lanes_is_taken_out_once(rt: HostRuntime) -> Result<(), Fai
             r#"{"journal":5,"keyconf":{"key-id":2,"peer-id":5},"notify":"key-swap-ntf"}"#,
             r#"{"summary":{"accepted":0,"answers":5,"bad-tag":0,"delivered":0,"journal":9,"keys":1,"keys-differ":true,"notes":1,"peers":1,"refused":0,"released":0,"sealed":1}}"#,
         ],
-    )?;
-    assert_eq!(rt; given.as_slice(), report.as_slice());
-    Ok(())
+    );
+    steps_from(
+        &rt,
+        alloc,
+        4_294_967_295,
+        &[0, 0, 0, 1, 2, 1, 0, 2, 2],
+        script.as_slice(),
+        report.as_slice(),
+    );
 }

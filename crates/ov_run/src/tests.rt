@@ -1,90 +1,152 @@
 //! Whole runs over sources and sinks in memory, in pieces of 16 bytes.
 
-ghost use Rattle.std.specs.Prelude.{IfSome, map, string_bytes};
+ghost use Rattle.std.specs.Prelude.{◌≢◌, IfSome, map, string_bytes};
 ghost use Rattle.ov_model.specs.declared.line.Script.{Script};
 ghost use Rattle.ov_model.specs.Legal.{Legal};
 ghost use Rattle.ov_plan.specs.declared.words.RunPlan.{RunPlan};
+ghost use Rattle.ov_plan.specs.declared.words.Mode.TheVariants as mode;
 ghost use Rattle.ov_plan.specs.Plan.{IsPlan};
-ghost use Rattle.ov_run.specs.Clauses.{Read};
+ghost use Rattle.ov_run.specs.Clauses.{Read, first_id};
 
 use crate::ended::{Cause, Ended};
 use crate::run::run_serial;
 use crate::told::{say, tell, tell_why};
-use ov_base::{ListOf, Memory, MemorySink, MemorySource, Octets, Sink};
+use ov_base::{ListOf, MemorySink, MemorySource, Octets, Sink};
 use ov_plan::About;
 use ov_script::Limit;
 use std::alloc::Global;
 use std::process::Abort;
-use std::test::Fail;
 
 const PEER5: &str =
     r#"{"at":0,"do":"peer-new","lane":0,"peer":{"id":5,"remote-ipv4":"192.0.2.1","remote-port":1194,"vpn-ipv4":"10.8.0.5"}}
 "#;
 
 /// The calls of these numbers, from 0.
-fn calls(alloc: Global, numbers: &[u64]) -> Result<ListOf<u64>, Memory> {
-    let numbers = Vec::from_slice(alloc, numbers)?;
-    Ok(ListOf::of_vec(numbers))
+fn calls(rt: &impl Abort, alloc: Global, numbers: &[u64]) -> ListOf<u64> {
+    let Ok(numbers) = Vec::from_slice(alloc, numbers) else {
+        panic!(rt; "no memory");
+    };
+    ListOf::of_vec(numbers)
+}
+
+/// A copy of these bytes.
+fn octets(rt: &impl Abort, alloc: Global, bytes: &[u8]) -> Octets {
+    let Ok(copy) = Octets::of(alloc, bytes) else {
+        panic!(rt; "no memory");
+    };
+    copy
+}
+
+/// This word, as the program gets it.
+fn word(rt: &impl Abort, alloc: Global, text: &str) -> String {
+    let Ok(word) = String::from_str(alloc, text) else {
+        panic!(rt; "no memory");
+    };
+    word
+}
+
+/// These words, as the program gets them.
+fn words_of(rt: &impl Abort, alloc: Global, texts: &[&str]) -> Vec<String> {
+    let mut words = Vec::new(alloc);
+    for text in texts {
+        assert!(rt; words.push(word(rt, alloc, *text)).is_ok());
+    }
+    words
 }
 
 /// How a run on `text` ended and what it wrote, with these words and where these calls fail.
 fn ran(
+    rt: &impl Abort,
     alloc: Global,
     texts: &[&str],
     text: &[u8],
     reads: &[u64],
     writes: &[u64],
-) -> Result<(Ended, Octets), Memory> {
-    let mut words = Vec::new(alloc);
-    for text in texts {
-        words.push(String::from_str(alloc, *text)?)?;
-    }
-    let bytes = Octets::of(alloc, text)?;
-    let mut source = MemorySource::new(bytes, 16, calls(alloc, reads)?);
-    let mut sink = MemorySink::new(alloc, 16, calls(alloc, writes)?);
+) -> (Ended, Octets) {
+    let words = words_of(rt, alloc, texts);
+    let bytes = octets(rt, alloc, text);
+    let mut source = MemorySource::new(bytes, 16, calls(rt, alloc, reads));
+    let mut sink = MemorySink::new(alloc, 16, calls(rt, alloc, writes));
     let ended = run_serial(alloc, words.as_slice(), &mut source, &mut sink);
-    let written = Octets::of(alloc, sink.written())?;
-    Ok((ended, written))
+    (ended, octets(rt, alloc, sink.written()))
 }
 
 /// The status and the written text of a run on `text`, with these words and where these calls fail.
 pub fn run(
+    rt: &impl Abort,
     alloc: Global,
     words: &[&str],
     text: &[u8],
     reads: &[u64],
     writes: &[u64],
-) -> Result<(u8, Octets), Memory> {
-    let (ended, written) = ran(alloc, words, text, reads, writes)?;
-    Ok((ended.status(), written))
+) -> (u8, Octets) {
+    let (ended, written) = ran(rt, alloc, words, text, reads, writes);
+    (ended.status(), written)
 }
 
-/// Why a run on `text` ended.
-pub fn cause_of(alloc: Global, text: &[u8]) -> Result<Cause, Memory> {
-    let (ended, _) = ran(alloc, &["trace"], text, &[], &[])?;
-    Ok(ended.cause)
+/// A run on `text` ends by this cause.
+pub fn ends_by(rt: &impl Abort, alloc: Global, text: &[u8], wanted: Cause) {
+    let (ended, _) = ran(rt, alloc, &["trace"], text, &[], &[]);
+    let cause = ended.cause;
+    assert_eq!(rt; cause, wanted);
+}
+
+/// This status and this text are the wanted ones.
+pub fn are(rt: &impl Abort, status: u8, text: &[u8], wanted: u8, wanted_text: &[u8]) {
+    assert_eq!(rt; status, wanted);
+    assert_eq!(rt; text, wanted_text);
+}
+
+/// A run on `text` with these words ends with this status and writes this text.
+pub fn writes(
+    rt: &impl Abort,
+    alloc: Global,
+    words: &[&str],
+    text: &[u8],
+    wanted: u8,
+    wanted_text: &[u8],
+) {
+    let (status, written) = run(rt, alloc, words, text, &[], &[]);
+    are(rt, status, written.as_slice(), wanted, wanted_text);
+}
+
+/// Nothing was run or written: the run ended by this cause and with this status, with this many good lines.
+fn is_unrun(
+    rt: &impl Abort,
+    ended: &Ended,
+    written: &[u8],
+    cause: Cause,
+    status: u8,
+    read_lines: u64,
+) {
+    assert_eq!(rt; ended.cause, cause);
+    are(rt, ended.status(), written, status, b"");
+    assert_eq!(rt; ended.read_lines, read_lines);
+    assert!(rt; ended.report.is_none());
+}
+
+/// An end by this cause is told in this text.
+fn is_told(rt: &impl Abort, alloc: Global, cause: Cause, text: &str) {
+    let mut sink = MemorySink::new(alloc, 16, ListOf::new(alloc));
+    assert_eq!(rt; tell(cause, &mut sink), Ok(()));
+    assert_eq!(rt; sink.written(), text.as_bytes());
 }
 
 #[test]
-fn an_empty_script_has_a_summary_alone(rt: HostRuntime) -> Result<(), Fail> {
-    let (status, written) = run(rt.alloc(), &["trace"], b"", &[], &[])?;
-    assert_eq!(rt; status, 0);
+fn an_empty_script_has_a_summary_alone(rt: HostRuntime) {
     let summary =
         br#"{"summary":{"accepted":0,"answers":0,"bad-tag":0,"delivered":0,"journal":0,"keys":0,"keys-differ":true,"notes":0,"peers":0,"refused":0,"released":0,"sealed":0}}
 "#;
-    assert_eq!(rt; written.as_slice(), summary.as_slice());
-    Ok(())
+    writes(&rt, rt.alloc(), &["trace"], b"", 0, summary);
 }
 
 #[test]
-fn a_taken_vpn_address_is_refused(rt: HostRuntime) -> Result<(), Fail> {
+fn a_taken_vpn_address_is_refused(rt: HostRuntime) {
     let script =
         br#"{"at":0,"do":"peer-new","lane":0,"peer":{"id":5,"remote-ipv4":"192.0.2.1","remote-port":1194,"vpn-ipv4":"10.8.0.5"}}
 {"at":0,"do":"peer-new","lane":0,"peer":{"id":6,"remote-ipv4":"192.0.2.2","remote-port":1194,"vpn-ipv4":"10.8.0.5"}}
 {"at":0,"do":"peer-get","lane":0,"peer":{"id":6}}
 "#;
-    let (status, written) = run(rt.alloc(), &["trace"], script, &[], &[])?;
-    assert_eq!(rt; status, 0);
     let report = br#"{"at":0,"call":"peer-new","journal":0,"lane":0,"line":0,"reply":{"serial":0}}
 {"at":0,"call":"peer-new","journal":1,"lane":0,"line":1,"reply":{"error":17}}
 {"at":0,"call":"peer-get","journal":2,"lane":0,"line":2,"reply":{"error":2}}
@@ -93,111 +155,134 @@ fn a_taken_vpn_address_is_refused(rt: HostRuntime) -> Result<(), Fail> {
 {"answer":{"error":2},"lane":0,"line":2}
 {"summary":{"accepted":0,"answers":3,"bad-tag":0,"delivered":0,"journal":3,"keys":0,"keys-differ":true,"notes":0,"peers":1,"refused":0,"released":0,"sealed":0}}
 "#;
-    assert_eq!(rt; written.as_slice(), report.as_slice());
-    Ok(())
+    writes(&rt, rt.alloc(), &["trace"], script, 0, report);
 }
 
 #[test]
-fn a_bad_line_or_another_word_runs_nothing(rt: HostRuntime) -> Result<(), Fail> {
-    for (word, text, wanted) in [
-        ("trace", b"{\n".as_slice(), 2),
-        ("trace", b"\n".as_slice(), 2),
-        ("run", PEER5.as_bytes(), 1),
-        ("", PEER5.as_bytes(), 1),
-    ] {
-        let (status, written) = run(rt.alloc(), &[word], text, &[], &[])?;
-        assert_eq!(rt; status, wanted);
-        assert!(rt; written.is_empty());
-    }
-    Ok(())
+fn a_bad_line_or_another_word_runs_nothing(rt: HostRuntime) {
+    writes(&rt, rt.alloc(), &["trace"], b"{\n", 2, b"");
+    writes(&rt, rt.alloc(), &["trace"], b"\n", 2, b"");
+    writes(&rt, rt.alloc(), &["run"], PEER5.as_bytes(), 1, b"");
+    writes(&rt, rt.alloc(), &[""], PEER5.as_bytes(), 1, b"");
 }
 
 /// A run with these words, which are no plan's, reads and writes nothing; its status is 1, and it tells the usage.
-fn tells_usage(rt: &impl Abort, alloc: Global, words: &[&str]) -> Result<(), Fail> {
-    let (ended, written) = ran(alloc, words, PEER5.as_bytes(), &[], &[])?;
-    assert_eq!(rt; ended.status(), 1);
-    assert_eq!(rt; ended.read_lines, 0);
-    assert!(rt; ended.report.is_none());
-    assert!(rt; written.is_empty());
-    let mut sink = MemorySink::new(alloc, 16, ListOf::new(alloc));
-    assert_eq!(rt; tell(ended.cause, &mut sink), Ok(()));
-    assert_eq!(rt;
-        sink.written(),
-        b"ovpn: usage: ovpn MODE [options]\n".as_slice()
+fn tells_usage(rt: &impl Abort, alloc: Global, words: &[&str]) {
+    let (ended, written) = ran(rt, alloc, words, PEER5.as_bytes(), &[], &[]);
+    is_unrun(rt, &ended, written.as_slice(), Cause::Usage, 1, 0);
+    is_told(rt, alloc, ended.cause, "ovpn: usage: ovpn MODE [options]\n");
+}
+
+#[test]
+fn words_without_a_plan_run_nothing_and_tell_the_usage(rt: HostRuntime) {
+    tells_usage(&rt, rt.alloc(), &[]);
+    tells_usage(&rt, rt.alloc(), &["trace", "--lanes", "0"]);
+    tells_usage(&rt, rt.alloc(), &["steps", "--schedule", "0,,1"]);
+    tells_usage(&rt, rt.alloc(), &["--help"]);
+}
+
+/// What the program says where these writes fail ends with this cause, and this is written.
+fn says(rt: &impl Abort, alloc: Global, text: &str, writes: &[u64], cause: Cause, written: &[u8]) {
+    let mut sink = MemorySink::new(alloc, 16, calls(rt, alloc, writes));
+    assert_eq!(rt; say(text, &mut sink), cause);
+    assert_eq!(rt; sink.written(), written);
+}
+
+#[test]
+fn what_the_program_says_is_written_whole_or_a_write_failed(rt: HostRuntime) {
+    let (version, help) = (About::Version.text(), About::Help.text());
+    says(&rt, rt.alloc(), version, &[], Cause::Fine, b"ovpn 0.1.0\n");
+    says(
+        &rt,
+        rt.alloc(),
+        help,
+        &[1],
+        Cause::WriteFault,
+        b"ovpn: the data p",
     );
-    Ok(())
 }
 
-#[test]
-fn words_without_a_plan_run_nothing_and_tell_the_usage(rt: HostRuntime) -> Result<(), Fail> {
-    tells_usage(&rt, rt.alloc(), &[])?;
-    tells_usage(&rt, rt.alloc(), &["trace", "--lanes", "0"])?;
-    tells_usage(&rt, rt.alloc(), &["steps", "--schedule", "0,,1"])?;
-    tells_usage(&rt, rt.alloc(), &["--help"])?;
-    Ok(())
+/// The text is the whole one where the status is 0; else the status is 4, and there is no text.
+fn is_none_or_whole(rt: &impl Abort, status: u8, text: &[u8], whole: &[u8]) {
+    if status == 4 {
+        assert!(rt; text.is_empty());
+    } else {
+        are(rt, status, text, 0, whole);
+    }
 }
 
-#[test]
-fn what_the_program_says_is_written_whole_or_a_write_failed(rt: HostRuntime) -> Result<(), Fail> {
-    let alloc = rt.alloc();
-    let mut sink = MemorySink::new(alloc, 16, ListOf::new(alloc));
-    assert_eq!(rt; say(About::Version.text(), &mut sink), Cause::Fine);
-    assert_eq!(rt; sink.written(), b"ovpn 0.1.0\n".as_slice());
-    let mut sink = MemorySink::new(alloc, 16, calls(alloc, &[1])?);
-    assert_eq!(rt; say(About::Help.text(), &mut sink), Cause::WriteFault);
-    assert_eq!(rt; sink.written(), b"ovpn: the data p".as_slice());
-    Ok(())
+/// A read that fails at this call is told, and nothing is written; or the run never came to it.
+fn tells_a_read_fault(rt: &impl Abort, alloc: Global, number: u64, whole: &[u8]) {
+    let (status, written) = run(rt, alloc, &["trace"], PEER5.as_bytes(), &[number], &[]);
+    is_none_or_whole(rt, status, written.as_slice(), whole);
 }
 
-#[test]
-fn a_fault_at_any_call_is_told_and_changes_no_report(rt: HostRuntime) -> Result<(), Fail> {
-    let (status, whole) = run(rt.alloc(), &["trace"], PEER5.as_bytes(), &[], &[])?;
+/// The text is the whole one where the status is 0; else the status is 5, and it is a part from the front.
+fn is_part(rt: &impl Abort, status: u8, text: &[u8], whole: &[u8]) {
+    assert!(rt; status == 5 || status == 0);
+    assert_eq!(rt; status == 0, text.len() == whole.len());
+    assert!(rt; whole.starts_with(text));
+}
+
+/// A write that fails at this call is told, and a part from the front is written; or the run never came to it.
+fn tells_a_write_fault(rt: &impl Abort, alloc: Global, number: u64, whole: &[u8]) {
+    let (status, written) = run(rt, alloc, &["trace"], PEER5.as_bytes(), &[], &[number]);
+    is_part(rt, status, written.as_slice(), whole);
+}
+
+/// A fault at any of the first calls is told; without one the status is this one, which is 0, and this is written.
+fn tells_each_fault(rt: &impl Abort, alloc: Global, status: u8, whole: &[u8]) {
     assert_eq!(rt; status, 0);
     for number in 0..24_u64 {
-        let (status, written) = run(rt.alloc(), &["trace"], PEER5.as_bytes(), &[number], &[])?;
-        if status == 4 {
-            assert!(rt; written.is_empty());
-        } else {
-            assert_eq!(rt; status, 0);
-            assert!(rt; written == whole);
-        }
-        let (status, written) = run(rt.alloc(), &["trace"], PEER5.as_bytes(), &[], &[number])?;
-        assert!(rt; status == 5 || status == 0);
-        assert_eq!(rt; status == 0, written.len() == whole.len());
-        assert!(rt; whole.as_slice().starts_with(written.as_slice()));
+        tells_a_read_fault(rt, alloc, number, whole);
+        tells_a_write_fault(rt, alloc, number, whole);
     }
-    let (status, _) = run(rt.alloc(), &["trace"], PEER5.as_bytes(), &[0], &[])?;
-    assert_eq!(rt; status, 4);
-    let (status, _) = run(rt.alloc(), &["trace"], PEER5.as_bytes(), &[], &[0])?;
-    assert_eq!(rt; status, 5);
-    Ok(())
 }
 
-/// A run on a text in memory, in pieces of 16 bytes. Its report is legal for the text's script: what the source
-/// gave is known from what it held, and is no premise.
+/// The status of a run where these calls fail.
+fn status_of(rt: &impl Abort, alloc: Global, reads: &[u64], writes: &[u64]) -> u8 {
+    let (status, _) = run(rt, alloc, &["trace"], PEER5.as_bytes(), reads, writes);
+    status
+}
+
+#[test]
+fn a_fault_at_any_call_is_told_and_changes_no_report(rt: HostRuntime) {
+    let (status, whole) = run(&rt, rt.alloc(), &["trace"], PEER5.as_bytes(), &[], &[]);
+    tells_each_fault(&rt, rt.alloc(), status, whole.as_slice());
+    assert_eq!(rt; status_of(&rt, rt.alloc(), &[0], &[]), 4);
+    assert_eq!(rt; status_of(&rt, rt.alloc(), &[], &[0]), 5);
+}
+
+/// A run on a text in memory, in pieces of 16 bytes. Its report is legal for the text's script, where the words ask
+/// for no other: what the source gave is known from what it held, and is no premise.
 fn traced<K: Sink>(alloc: Global, words: &[String], text: Octets, sink: &mut K) -> Ended
     ensures { IfSome result.report (λ report.
         (plan : RunPlan) × IsPlan (map string_bytes words.now) plan ×
-        ((script : Script) × Read text script × Legal script plan.first_id report)) }
+        ((script : Script) × (plan.mode ≢ mode.Make → Read text script) ×
+        Legal script (first_id plan) report)) }
 {
     let mut source = MemorySource::new(text, 16, ListOf::new(alloc));
     run_serial(alloc, words, &mut source, sink)
 }
 
-#[test]
-fn a_text_in_memory_has_a_report_of_its_script(rt: HostRuntime) -> Result<(), Fail> {
-    let mut words = Vec::new(rt.alloc());
-    words.push(String::from_str(rt.alloc(), "trace")?)?;
-    let text = Octets::of(rt.alloc(), PEER5.as_bytes())?;
-    let mut sink = MemorySink::new(rt.alloc(), 16, ListOf::new(rt.alloc()));
-    let ended = traced(rt.alloc(), words.as_slice(), text, &mut sink);
+/// A run ended well and has a report.
+fn has_report(rt: &impl Abort, ended: &Ended) {
     assert_eq!(rt; ended.cause, Cause::Fine);
     assert!(rt; ended.report.is_some());
-    Ok(())
 }
 
 #[test]
-fn each_cause_is_told_in_its_words(rt: HostRuntime) -> Result<(), Fail> {
+fn a_text_in_memory_has_a_report_of_its_script(rt: HostRuntime) {
+    let alloc = rt.alloc();
+    let words = words_of(&rt, alloc, &["trace"]);
+    let text = octets(&rt, alloc, PEER5.as_bytes());
+    let mut sink = MemorySink::new(alloc, 16, ListOf::new(alloc));
+    let ended = traced(alloc, words.as_slice(), text, &mut sink);
+    has_report(&rt, &ended);
+}
+
+#[test]
+fn each_cause_is_told_in_its_words(rt: HostRuntime) {
     let table: [(Cause, &str); 11] = [
         (Cause::Fine, ""),
         (Cause::Usage, "ovpn: usage: ovpn MODE [options]\n"),
@@ -215,48 +300,63 @@ fn each_cause_is_told_in_its_words(rt: HostRuntime) -> Result<(), Fail> {
         (Cause::Memory, "ovpn: want of memory\n"),
     ];
     for (cause, text) in table {
-        let mut sink = MemorySink::new(rt.alloc(), 16, ListOf::new(rt.alloc()));
-        assert_eq!(rt; tell(cause, &mut sink), Ok(()));
-        assert_eq!(rt; sink.written(), text.as_bytes());
+        is_told(&rt, rt.alloc(), cause, text);
     }
-    Ok(())
+}
+
+/// The second line that tells why a run ended has this text.
+fn is_explained(rt: &impl Abort, alloc: Global, ended: &Ended, text: &str) {
+    let mut sink = MemorySink::new(alloc, 16, ListOf::new(alloc));
+    assert_eq!(rt; tell_why(alloc, ended, &mut sink), Ok(()));
+    assert_eq!(rt; sink.written(), text.as_bytes());
+}
+
+/// Why a run ended isn't told where the first write fails, and the status is the same.
+fn is_not_explained(rt: &impl Abort, alloc: Global, ended: &Ended) {
+    let mut broken = MemorySink::new(alloc, 16, calls(rt, alloc, &[0]));
+    let status = ended.status();
+    assert!(rt; tell_why(alloc, ended, &mut broken).is_err());
+    assert_eq!(rt; ended.status(), status);
 }
 
 #[test]
-fn a_bad_line_is_told_with_why_it_is(rt: HostRuntime) -> Result<(), Fail> {
+fn a_bad_line_is_told_with_why_it_is(rt: HostRuntime) {
+    let alloc = rt.alloc();
     let text = br#"{"at":0,"do":"peer-get","lane":0,"peer":{"id":5},"ports":1}"#;
-    let (ended, written) = ran(rt.alloc(), &["trace"], text, &[], &[])?;
-    assert_eq!(rt; ended.cause, Cause::BadLine(1));
-    assert!(rt; written.is_empty());
-    let mut sink = MemorySink::new(rt.alloc(), 16, ListOf::new(rt.alloc()));
-    assert_eq!(rt; tell(ended.cause, &mut sink), Ok(()));
-    assert_eq!(rt; tell_why(rt.alloc(), &ended, &mut sink), Ok(()));
-    assert_eq!(rt;
-        sink.written(),
-        b"ovpn: line 1 is not in the grammar\novpn: line 1 is bad: unknown name ports\n".as_slice()
+    let (ended, written) = ran(&rt, alloc, &["trace"], text, &[], &[]);
+    is_unrun(&rt, &ended, written.as_slice(), Cause::BadLine(1), 2, 0);
+    is_told(
+        &rt,
+        alloc,
+        ended.cause,
+        "ovpn: line 1 is not in the grammar\n",
     );
-    // Where it can't be written the status is the same.
-    let mut broken = MemorySink::new(rt.alloc(), 16, calls(rt.alloc(), &[0])?);
-    assert!(rt; tell_why(rt.alloc(), &ended, &mut broken).is_err());
-    assert_eq!(rt; ended.status(), 2);
-    Ok(())
+    is_explained(
+        &rt,
+        alloc,
+        &ended,
+        "ovpn: line 1 is bad: unknown name ports\n",
+    );
+    is_not_explained(&rt, alloc, &ended);
+}
+
+/// This text, and behind it this many spaces.
+pub fn spaced(rt: &impl Abort, alloc: Global, text: &[u8], spaces: usize) -> Vec<u8> {
+    let Ok(mut bytes) = Vec::from_slice(alloc, text) else {
+        panic!(rt; "no memory");
+    };
+    let length = text.len().saturating_add(spaces);
+    assert!(rt; bytes.resize(length, b' ').is_ok());
+    bytes
 }
 
 #[test]
-fn a_script_past_a_limit_runs_nothing(rt: HostRuntime) -> Result<(), Fail> {
+fn a_script_past_a_limit_runs_nothing(rt: HostRuntime) {
+    let alloc = rt.alloc();
     // A line of 262,145 bytes, behind a good one.
-    let mut text = Vec::from_slice(rt.alloc(), PEER5.as_bytes())?;
-    for _ in 0..262_145 {
-        text.push(b' ')?;
-    }
-    let (ended, written) = ran(rt.alloc(), &["trace"], text.as_slice(), &[], &[])?;
-    assert_eq!(rt; ended.cause, Cause::Limit(Limit::LineBytes));
-    assert_eq!(rt; ended.status(), 3);
-    assert_eq!(rt; ended.read_lines, 1);
-    assert!(rt; ended.report.is_none());
-    assert!(rt; written.is_empty());
-    let mut sink = MemorySink::new(rt.alloc(), 16, ListOf::new(rt.alloc()));
-    assert_eq!(rt; tell_why(rt.alloc(), &ended, &mut sink), Ok(()));
-    assert!(rt; sink.written().is_empty());
-    Ok(())
+    let text = spaced(&rt, alloc, PEER5.as_bytes(), 262_145);
+    let (ended, written) = ran(&rt, alloc, &["trace"], text.as_slice(), &[], &[]);
+    let limit = Cause::Limit(Limit::LineBytes);
+    is_unrun(&rt, &ended, written.as_slice(), limit, 3, 1);
+    is_explained(&rt, alloc, &ended, "");
 }

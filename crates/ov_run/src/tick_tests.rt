@@ -4,12 +4,10 @@
 //! those of a model of the peer table in Python, written from the documents alone.
 
 use crate::packet_tests::{
-    GET5, KEY_ANSWER, KEY_MADE, KEY5, PEER_ANSWER, PEER_MADE, PEER5, ends_with, text, written,
+    GET5, KEY_ANSWER, KEY_MADE, KEY5, PEER_ANSWER, PEER_MADE, PEER5, ends_in, push_line, written,
 };
-use crate::tests::run;
-use ov_base::Memory;
 use std::alloc::Global;
-use std::test::Fail;
+use std::process::Abort;
 
 /// A second peer.
 const PEER6: &str =
@@ -20,9 +18,7 @@ const ALIVE5: &str =
     r#"{"at":0,"do":"peer-new","lane":0,"peer":{"id":5,"keepalive-interval":10,"keepalive-timeout":30,"remote-ipv4":"192.0.2.1","remote-port":1194,"vpn-ipv4":"10.8.0.5"}}"#;
 
 #[test]
-fn a_packet_with_a_foreign_source_is_not_delivered_but_the_peer_floats(
-    rt: HostRuntime,
-) -> Result<(), Fail> {
+fn a_packet_with_a_foreign_source_is_not_delivered_but_the_peer_floats(rt: HostRuntime) {
     written(
         &rt,
         rt.alloc(),
@@ -49,11 +45,11 @@ fn a_packet_with_a_foreign_source_is_not_delivered_but_the_peer_floats(
             r#"{"answer":{"peer":{"id":5,"keepalive-interval":0,"keepalive-timeout":0,"link-rx-bytes":44,"link-rx-packets":1,"link-tx-bytes":0,"link-tx-packets":0,"remote-ipv4":"192.0.2.9","remote-port":1194,"vpn-ipv4":"10.8.0.5","vpn-rx-bytes":0,"vpn-rx-packets":0,"vpn-tx-bytes":0,"vpn-tx-packets":0}},"lane":0,"line":4}"#,
             r#"{"summary":{"accepted":1,"answers":5,"bad-tag":0,"delivered":0,"journal":6,"keys":1,"keys-differ":true,"notes":0,"peers":2,"refused":0,"released":0,"sealed":0}}"#,
         ],
-    )
+    );
 }
 
 #[test]
-fn a_peer_floats_to_a_free_transport_and_not_to_a_taken_one(rt: HostRuntime) -> Result<(), Fail> {
+fn a_peer_floats_to_a_free_transport_and_not_to_a_taken_one(rt: HostRuntime) {
     written(
         &rt,
         rt.alloc(),
@@ -88,13 +84,11 @@ fn a_peer_floats_to_a_free_transport_and_not_to_a_taken_one(rt: HostRuntime) -> 
             r#"{"answer":{"peer":{"id":5,"keepalive-interval":0,"keepalive-timeout":0,"link-rx-bytes":88,"link-rx-packets":2,"link-tx-bytes":0,"link-tx-packets":0,"remote-ipv4":"192.0.2.9","remote-port":1194,"vpn-ipv4":"10.8.0.5","vpn-rx-bytes":40,"vpn-rx-packets":2,"vpn-tx-bytes":0,"vpn-tx-packets":0}},"lane":0,"line":6}"#,
             r#"{"summary":{"accepted":2,"answers":7,"bad-tag":0,"delivered":2,"journal":9,"keys":1,"keys-differ":true,"notes":0,"peers":2,"refused":0,"released":0,"sealed":0}}"#,
         ],
-    )
+    );
 }
 
 #[test]
-fn pings_are_sent_after_ten_seconds_and_the_silent_peer_expires(
-    rt: HostRuntime,
-) -> Result<(), Fail> {
+fn pings_are_sent_after_ten_seconds_and_the_silent_peer_expires(rt: HostRuntime) {
     written(
         &rt,
         rt.alloc(),
@@ -129,13 +123,11 @@ fn pings_are_sent_after_ten_seconds_and_the_silent_peer_expires(
             r#"{"journal":9,"notify":"peer-del-ntf","peer":{"del-reason":"expired","id":5}}"#,
             r#"{"summary":{"accepted":0,"answers":6,"bad-tag":0,"delivered":0,"journal":12,"keys":1,"keys-differ":true,"notes":1,"peers":1,"refused":0,"released":1,"sealed":2}}"#,
         ],
-    )
+    );
 }
 
 #[test]
-fn due_peers_are_sent_pings_by_rising_id_and_a_peer_without_a_key_none(
-    rt: HostRuntime,
-) -> Result<(), Fail> {
+fn due_peers_are_sent_pings_by_rising_id_and_a_peer_without_a_key_none(rt: HostRuntime) {
     written(
         &rt,
         rt.alloc(),
@@ -179,11 +171,11 @@ fn due_peers_are_sent_pings_by_rising_id_and_a_peer_without_a_key_none(
             r#"{"journal":7,"notify":"peer-del-ntf","peer":{"del-reason":"expired","id":7}}"#,
             r#"{"summary":{"accepted":0,"answers":9,"bad-tag":0,"delivered":0,"journal":15,"keys":3,"keys-differ":false,"notes":1,"peers":4,"refused":0,"released":1,"sealed":2}}"#,
         ],
-    )
+    );
 }
 
 #[test]
-fn a_ping_with_no_packet_id_left_kills_its_key(rt: HostRuntime) -> Result<(), Fail> {
+fn a_ping_with_no_packet_id_left_kills_its_key(rt: HostRuntime) {
     written(
         &rt,
         rt.alloc(),
@@ -211,11 +203,11 @@ fn a_ping_with_no_packet_id_left_kills_its_key(rt: HostRuntime) -> Result<(), Fa
             r#"{"journal":7,"keyconf":{"key-id":2,"peer-id":5},"notify":"key-swap-ntf"}"#,
             r#"{"summary":{"accepted":0,"answers":4,"bad-tag":0,"delivered":0,"journal":9,"keys":1,"keys-differ":true,"notes":1,"peers":1,"refused":0,"released":0,"sealed":1}}"#,
         ],
-    )
+    );
 }
 
 #[test]
-fn a_down_removes_all_peers_by_rising_id(rt: HostRuntime) -> Result<(), Fail> {
+fn a_down_removes_all_peers_by_rising_id(rt: HostRuntime) {
     written(
         &rt,
         rt.alloc(),
@@ -264,7 +256,7 @@ fn a_down_removes_all_peers_by_rising_id(rt: HostRuntime) -> Result<(), Fail> {
             r#"{"journal":6,"notify":"peer-del-ntf","peer":{"del-reason":"teardown","id":9}}"#,
             r#"{"summary":{"accepted":0,"answers":10,"bad-tag":0,"delivered":0,"journal":16,"keys":3,"keys-differ":false,"notes":3,"peers":4,"refused":0,"released":3,"sealed":0}}"#,
         ],
-    )
+    );
 }
 
 /// A client joins.
@@ -306,46 +298,50 @@ const RECEIVED: [&str; 8] = [
     r#"{"at":0,"datagram":"48000008000000013dc19948b773e0fbd4ee97bb06d7b27a065e1940ec7a30054d161df204f56eacc59d2fc5","do":"rx","from":{"addr":"192.0.2.8","port":1194},"lane":0}"#,
 ];
 
-/// Appends the line for each client from 1 to 8: `#` stands for the client's id, and `@` for its lane, which is the
-/// remainder by 4.
-fn for_all(script: &mut Vec<u8>, line: &str) -> Result<(), Memory> {
-    for id in 1..=8_u8 {
-        for byte in line.as_bytes() {
-            script.push(match *byte {
-                b'#' => b'0' + id,
-                b'@' => b'0' + id % 4,
-                other => other,
-            })?;
-        }
-        script.push(b'\n')?;
+/// Appends the line for the client of this id: `#` stands for the id, and `@` for its lane, which is the remainder by 4.
+fn push_for(rt: &impl Abort, script: &mut Vec<u8>, line: &[u8], id: u8) {
+    for byte in line {
+        let put = match *byte {
+            b'#' => b'0' + id % 10,
+            b'@' => b'0' + id % 4,
+            other => other,
+        };
+        assert!(rt; script.push(put).is_ok());
     }
-    Ok(())
+    assert!(rt; script.push(b'\n').is_ok());
+}
+
+/// Appends the line for each client from 1 to 8.
+fn push_for_all(rt: &impl Abort, script: &mut Vec<u8>, line: &str) {
+    for id in 1..=8_u8 {
+        push_for(rt, script, line.as_bytes(), id);
+    }
 }
 
 /// The script of the session: each phase for all clients in turn, and at last all of them are removed.
-fn session(alloc: Global) -> Result<Vec<u8>, Memory> {
+fn session(rt: &impl Abort, alloc: Global) -> Vec<u8> {
     let mut script = Vec::new(alloc);
     for line in [NEW, PRIMARY, SECONDARY, SEND4, SWAP, SEND6] {
-        for_all(&mut script, line)?;
+        push_for_all(rt, &mut script, line);
     }
-    let received = text(alloc, &RECEIVED)?;
-    script.extend_from_slice(received.as_slice())?;
-    for_all(&mut script, DELETE)?;
-    script.extend_from_slice(DOWN)?;
-    Ok(script)
+    for line in RECEIVED {
+        push_line(rt, &mut script, line);
+    }
+    push_for_all(rt, &mut script, DELETE);
+    push_line(rt, &mut script, DOWN);
+    script
 }
 
 /// The device goes down.
-const DOWN: &[u8] = b"{\"at\":0,\"do\":\"down\",\"lane\":0}\n";
+const DOWN: &str = r#"{"at":0,"do":"down","lane":0}"#;
 
 #[test]
-fn a_server_session_of_eight_peers_on_four_lanes(rt: HostRuntime) -> Result<(), Fail> {
-    let alloc = rt.alloc();
-    let script = session(alloc)?;
-    let (status, written) = run(alloc, &["trace"], script.as_slice(), &[], &[])?;
-    assert_eq!(rt; status, 0);
-    let end = text(
-        alloc,
+fn a_server_session_of_eight_peers_on_four_lanes(rt: HostRuntime) {
+    let script = session(&rt, rt.alloc());
+    ends_in(
+        &rt,
+        rt.alloc(),
+        script.as_slice(),
         &[
             r#"{"journal":96,"notify":"peer-del-ntf","peer":{"del-reason":"teardown","id":1}}"#,
             r#"{"journal":96,"notify":"peer-del-ntf","peer":{"del-reason":"teardown","id":2}}"#,
@@ -357,7 +353,5 @@ fn a_server_session_of_eight_peers_on_four_lanes(rt: HostRuntime) -> Result<(), 
             r#"{"journal":96,"notify":"peer-del-ntf","peer":{"del-reason":"teardown","id":8}}"#,
             r#"{"summary":{"accepted":8,"answers":65,"bad-tag":0,"delivered":8,"journal":113,"keys":16,"keys-differ":true,"notes":8,"peers":8,"refused":0,"released":8,"sealed":16}}"#,
         ],
-    )?;
-    assert!(rt; ends_with(written.as_slice(), end.as_slice()));
-    Ok(())
+    );
 }

@@ -73,7 +73,8 @@ fn tell_bad_line<K: Sink>(number: u64, sink: &mut K) -> Result<(), WriteFault>
 /// Writes what the program says of itself, and gives the cause that this ends with: `Fine`, or `WriteFault`
 /// where a part was written.
 pub fn say<K: Sink>(text: &str, sink: &mut K) -> Cause
-    ensures whole { result ≡ cause.Fine → Appends (K.written sink.old) (K.written sink.new) text.now }
+    ensures whole { result ≡ cause.Fine →
+        Appends (K.written sink.old) (K.written sink.new) text.now }
     ensures fault { result ≢ cause.Fine → (result ≡ cause.WriteFault) ×
         Rose (K.faults sink.old) (K.faults sink.new) ×
         AppendsPart (K.written sink.old) (K.written sink.new) text.now }

@@ -14,7 +14,7 @@ use std::alloc::Global;
 pub const MOST_WIDE: usize = 1_024;
 
 /// The lines that were found good, in order.
-#[derive(Debug, Drop)]
+#[derive(Drop)]
 pub struct GoodLines {
     pub lines: Vec<Line>,
     /// How many of them are wide.

@@ -2,11 +2,7 @@
 #![tactic(auto)]
 
 pub mod good;
-#[cfg(test)]
-mod limit_tests;
 pub mod pieces;
-#[cfg(test)]
-mod reading_tests;
 pub mod script;
 
 pub use good::MOST_WIDE;

@@ -19,7 +19,7 @@ pub const MOST_LINES: usize = 262_144;
 pub const MOST_LINE_BYTES: usize = 262_144;
 
 /// What was read of a stream's pieces so far.
-#[derive(Debug, Drop)]
+#[derive(Drop)]
 pub struct Pieces {
     /// The lines that were ended.
     pub good: GoodLines,

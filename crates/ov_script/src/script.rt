@@ -53,7 +53,7 @@ pub enum ReadStop {
 }
 
 /// What reading a source gave.
-#[derive(Debug, Drop, PartialEq, Eq)]
+#[derive(Drop)]
 pub struct Reading {
     /// How many whole lines were taken and found good.
     pub good: u64,

@@ -1,11 +1,10 @@
 -- No serial stands twice in a table, after a step as before it.
-use Rattle.std.proofs.Common.{ℕ, ◌+◌, ◌<◌, ◌≤◌, ◌≡◌, ◌∙◌, refl, ap, sym, subst, List, [], ◌∷◌, ◌++◌, length, Bool, true, false, if◌then◌else◌, ◌==◌, ◌||◌, arith, append-nil, append_assoc, inl, inr, ◌⊎◌}
-use Rattle.std.specs.Prelude.{map, find, Option, Some, None, nat_le}
+use Rattle.std.proofs.Common.{ℕ, ◌+◌, ◌<◌, ◌≤◌, ◌≡◌, ◌∙◌, refl, ap, sym, subst, List, [], ◌∷◌, ◌++◌, length, Bool, true, false, if◌then◌else◌, ◌==◌, arith, inl, inr}
+use Rattle.std.specs.Prelude.{map, find, Some, None, nat_le}
 use Rattle.std.specs.List.{list_any}
 use Rattle.std.proofs.lemmas.Bool.{cases_eq, eq-eqb, ne_eqb}
 use Rattle.std.proofs.lemmas.List.{map-append}
 use Rattle.ov_model.specs.declared.ident.PeerId.{PeerId}
-use Rattle.ov_model.specs.declared.command.Attrs.{Attrs}
 use Rattle.ov_model.specs.declared.command.KeyConf.{KeyConf}
 use Rattle.ov_model.specs.declared.command.Reason.{Reason}
 use Rattle.ov_model.specs.declared.command.Slot.{Slot}
@@ -15,13 +14,13 @@ use Rattle.ov_model.specs.declared.act.Act.TheVariants as act
 use Rattle.ov_model.specs.declared.reply.Reply.TheVariants as reply
 use Rattle.ov_model.specs.declared.reply.Settled.{Settled}
 use Rattle.ov_model.specs.Limits.{most_keys}
-use Rattle.ov_model.specs.Tables.{Peer, Key, Table, change_first, without_first, has_id, has_serial, serials_of, in_slot, key_if_any, keys_in, keys_of, key_serials, by_id, by_serial, by_key, swapped, with_slot}
+use Rattle.ov_model.specs.Tables.{Peer, Key, Table, change_first, without_first, has_id, serials_of, in_slot, key_if_any, keys_in, keys_of, key_serials, by_id, by_serial, by_key, swapped, with_slot}
 use Rattle.ov_model.specs.Step.{Outcome, unless, key_new_checks, key_made, slots_changed, removals, spent_key, spend, key_new, sent_peer, received_peer, settled_peer, act_step, may_act}
 use Rattle.ov_model.specs.Path.{removed}
 use Rattle.ov_model.specs.Removals.{times, released_by, key_released_by}
 use Rattle.ov_model.specs.Lifetime.{peer_made_by, key_made_by}
 use Rattle.ov_model.proofs.Firsts.{is_of, map_changed, counts_without}
-use Rattle.ov_model.proofs.Freed.{Balance, act_balance}
+use Rattle.ov_model.proofs.Freed.{act_balance}
 use Rattle.ov_model.proofs.KeysTaken.{slot_serials, peer_keys, MakesNext, Turns, turns}
 use Rattle.ov_model.proofs.Removing.{Spends, spend_spends}
 use Rattle.ov_model.proofs.Shapes.{Name, Kept, settled_kept}

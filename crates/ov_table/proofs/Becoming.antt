@@ -1,13 +1,13 @@
 -- What a step of the table makes of each cell: what became live is left to link, what became dying to unlink,
 -- and only what is owed is let go. It follows from what a step makes, removes, takes out and lets go of each
 -- serial, whatever the act.
-use Rattle.std.proofs.Common.{ℕ, ◌≡◌, ◌+◌, ◌-◌, ◌<◌, ◌≤◌, List, [], ◌∷◌, ◌++◌, refl, sym, ap, ◌∙◌, subst, arith, if◌then◌else◌, ◌==◌, Bool, true, false, inl, inr}
+use Rattle.std.proofs.Common.{ℕ, ◌≡◌, ◌+◌, ◌-◌, ◌<◌, ◌≤◌, List, [], ◌∷◌, refl, sym, ap, ◌∙◌, subst, arith, if◌then◌else◌, ◌==◌, true, inl, inr}
 use Rattle.std.specs.Prelude.{map}
 use Rattle.std.proofs.lemmas.Bool.{cases_eq, cases_lt, eq-eqb, ne_eqb}
 use Rattle.std.proofs.lemmas.Bool.Decides.{nat_tests}
 use mathlib.Core.Logic.{dite}
 use native.Mathlib.Decide.{ℕ_discrete}
-use Rattle.ov_base.specs.Sums.{total, count_of}
+use Rattle.ov_base.specs.Sums.{count_of}
 use Rattle.ov_base.proofs.Sums.{total_append}
 use Rattle.ov_turn.specs.Lists.{has, newly}
 use Rattle.ov_turn.specs.HoldRule.{MayBecome}
@@ -22,11 +22,10 @@ use Rattle.ov_model.specs.Path.{removed}
 use Rattle.ov_model.specs.Limits.{most_peers, most_keys}
 use Rattle.ov_model.specs.Removals.{times, released_by, key_released_by}
 use Rattle.ov_model.specs.Lifetime.{peer_made_by, key_made_by}
-use Rattle.ov_model.specs.Runs.{last_table}
 use Rattle.ov_model.proofs.Times.{times_first}
 use Rattle.ov_model.proofs.KeysTaken.{slot_serials, keys_serials, Turns, step_turns}
 use Rattle.ov_model.proofs.Freed.{Balance, act_balance}
-use Rattle.ov_model.proofs.Tallies.{Comes, comes_next, Room, peer_tally, key_tally, peer_stands, key_stands, peer_room, key_room, peers_most, keys_most, any_stands}
+use Rattle.ov_model.proofs.Tallies.{Comes, comes_next, Room, peer_tally, key_tally, peer_stands, peer_room, key_room, peers_most, keys_most, any_stands}
 use Rattle.ov_table.specs.Recorded.{Recorded, stepped, IsTold}
 use Rattle.ov_table.specs.Cells.{key_cell, cells, live_cells, dying_cells, made_cells, gone_cells, freed_cells, OwesFreed}
 use Rattle.ov_table.proofs.Told.{told_step}

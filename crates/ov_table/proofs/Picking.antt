@@ -1,5 +1,5 @@
 -- Peers that are taken out of the live ones by their serials: which they are, and which are left.
-use Rattle.std.proofs.Common.{ℕ, ◌+◌, ◌≤◌, ◌≡◌, ◌∙◌, refl, ap, sym, subst, List, [], ◌∷◌, ◌++◌, Bool, true, false, cond, if◌then◌else◌, ◌==◌, ◌||◌, arith, inl, inr, ◌⊎◌}
+use Rattle.std.proofs.Common.{ℕ, ◌+◌, ◌≤◌, ◌≡◌, ◌∙◌, refl, ap, sym, subst, List, [], ◌∷◌, ◌++◌, Bool, true, false, cond, if◌then◌else◌, ◌==◌, ◌||◌, arith, inl, inr}
 use Rattle.std.specs.Prelude.{map, filter, find, not, Some, None, option_to_list}
 use Rattle.std.specs.List.{list_any}
 use Rattle.std.proofs.lemmas.Bool.{cases_eq, eq-eqb, ne_eqb}

@@ -1,5 +1,5 @@
 -- What the removal of one peer by its serial, where there is one, and of the rest of them make of the lists.
-use Rattle.std.proofs.Common.{ℕ, ◌+◌, ◌*◌, ◌≤◌, ◌≡◌, ◌∙◌, refl, ap, sym, List, [], ◌∷◌, ◌++◌, length, length-append, append_assoc, append-nil, Bool, true, false, if◌then◌else◌, arith}
+use Rattle.std.proofs.Common.{ℕ, ◌+◌, ◌≤◌, ◌≡◌, ◌∙◌, refl, ap, sym, List, [], ◌∷◌, ◌++◌, length, length-append, append_assoc, append-nil, Bool, true, false, if◌then◌else◌, arith}
 use Rattle.std.specs.Prelude.{map, find, Option, Some, None, option_to_list}
 use Rattle.std.proofs.lemmas.List.{map-append}
 use Rattle.ov_base.specs.Sums.{total}
@@ -13,7 +13,7 @@ use Rattle.ov_model.specs.Removals.{times}
 use Rattle.ov_model.proofs.Firsts.{times_total}
 use Rattle.ov_model.proofs.Times.{times-append}
 use Rattle.ov_table.specs.Apart.{Apart}
-use Rattle.ov_table.specs.Picked.{picked, del_notes}
+use Rattle.ov_table.specs.Picked.{del_notes}
 use Rattle.ov_table.proofs.Apart.{fewer}
 
 -- ---- one that is taken out, where there is one

@@ -12,6 +12,3 @@ pub mod table;
 
 pub use locked::{CELLS, KEY_CELLS};
 pub use table::Table;
-
-#[cfg(test)]
-mod tests;

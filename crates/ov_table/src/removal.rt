@@ -31,20 +31,26 @@ pub fn remove_each(
     requires retired_room { 2 * length gone.now ≤ retired.old.room }
     requires notes_room { length gone.now ≤ notes.old.room }
     requires taken_room { vec_len taken.old + 2 * length gone.now ≤ vec_capacity taken.old }
-    requires apart { Apart (serials_of live.old.live) (serials_of dying.old.items) dying.old.serials }
-    requires keys { Apart (key_serials (keys_of live.old.live)) (key_serials retired.old.items) retired.old.serials }
+    requires apart { Apart (serials_of live.old.live) (serials_of dying.old.items)
+        dying.old.serials }
+    requires keys { Apart (key_serials (keys_of live.old.live)) (key_serials retired.old.items)
+        retired.old.serials }
     ensures live { live.new ≡ record live.old { live = left gone.now live.old.live } }
     ensures dying { dying.new.items ≡ dying.old.items ++ map bare (picked gone.now live.old.live) }
-    ensures retired { retired.new.items ≡ retired.old.items ++ keys_of (picked gone.now live.old.live) }
+    ensures retired { retired.new.items ≡
+        retired.old.items ++ keys_of (picked gone.now live.old.live) }
     ensures notes { notes.new.notes ≡ notes.old.notes ++
         numbered entry (del_notes reason (picked gone.now live.old.live)) }
     ensures taken { taken.new.items ≡ taken.old.items ++
         key_serials (keys_of (picked gone.now live.old.live)) }
-    ensures apart { (made : ℕ) → Apart (serials_of live.old.live) (serials_of dying.old.items) made →
+    ensures apart { (made : ℕ) →
+        Apart (serials_of live.old.live) (serials_of dying.old.items) made →
         Apart (serials_of live.new.live) (serials_of dying.new.items) made }
-    ensures keys { (made : ℕ) → Apart (key_serials (keys_of live.old.live)) (key_serials retired.old.items) made →
+    ensures keys { (made : ℕ) →
+        Apart (key_serials (keys_of live.old.live)) (key_serials retired.old.items) made →
         Apart (key_serials (keys_of live.new.live)) (key_serials retired.new.items) made }
-    ensures same { length live.new.live + length dying.new.items ≡ length live.old.live + length dying.old.items }
+    ensures same { length live.new.live + length dying.new.items ≡
+        length live.old.live + length dying.old.items }
     ensures most { length retired.new.items ≤ length retired.old.items + 2 * length gone.now }
 {
     for serial in gone {
@@ -67,8 +73,10 @@ fn remove_one(
     requires retired_room { 2 ≤ retired.old.room }
     requires notes_room { 1 ≤ notes.old.room }
     requires taken_room { vec_len taken.old + 2 ≤ vec_capacity taken.old }
-    requires apart { Apart (serials_of live.old.live) (serials_of dying.old.items) dying.old.serials }
-    requires keys { Apart (key_serials (keys_of live.old.live)) (key_serials retired.old.items) retired.old.serials }
+    requires apart { Apart (serials_of live.old.live) (serials_of dying.old.items)
+        dying.old.serials }
+    requires keys { Apart (key_serials (keys_of live.old.live)) (key_serials retired.old.items)
+        retired.old.serials }
     ensures live { live.new ≡
         record live.old { live = without_first (has_serial serial) live.old.live } }
     ensures dying { dying.new.items ≡

@@ -12,7 +12,8 @@ use ov_model::Slot;
 /// A key that was taken out of its slot, where there is one, joins the retired ones. Its serial is given.
 pub fn retire(retired: &mut Gone<KeyRec>, key: Option<KeyRec>) -> Option<u32>
     requires room { 0 < retired.old.room }
-    requires apart { Apart (key_serials (key_if_any key)) (key_serials retired.old.items) retired.old.serials }
+    requires apart { Apart (key_serials (key_if_any key)) (key_serials retired.old.items)
+        retired.old.serials }
     ensures items { retired.new.items ≡ retired.old.items ++ key_if_any key }
     ensures taken { serial_list result ≡ key_serials (key_if_any key) }
     ensures room { retired.old.room ≤ retired.new.room + 1 }
@@ -27,7 +28,8 @@ pub fn retire(retired: &mut Gone<KeyRec>, key: Option<KeyRec>) -> Option<u32>
 /// All keys of some slots join the retired ones, the primary's first. Their serials are given.
 pub fn retire_all(retired: &mut Gone<KeyRec>, slots: &mut Slots) -> (Option<u32>, Option<u32>)
     requires room { 2 ≤ retired.old.room }
-    requires apart { Apart (key_serials (keys_in slots.old)) (key_serials retired.old.items) retired.old.serials }
+    requires apart { Apart (key_serials (keys_in slots.old)) (key_serials retired.old.items)
+        retired.old.serials }
     ensures slots { slots.new ≡ no_keys }
     ensures items { retired.new.items ≡ retired.old.items ++ keys_in slots.old }
     ensures taken { serial_list result.0 ++ serial_list result.1 ≡ key_serials (keys_in slots.old) }

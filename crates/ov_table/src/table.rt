@@ -281,7 +281,7 @@ impl Table {
         self.journal.as_slice()
     }
 
-    /// How many peers are live. It looks at each place of the index.
+    /// How many peers are live. The index keeps it.
     pub fn live_count(&self) -> usize
         ensures count { result ≡ length self.now.now.live }
         ensures most { result ≤ 4096 }

@@ -9,8 +9,6 @@ pub mod members;
 pub mod pieces;
 pub mod reply;
 pub mod sealed;
-#[cfg(test)]
-mod tests;
 mod view;
 
 pub use digits::{append_address, append_digits};

@@ -1,8 +1,6 @@
 //! The canonical text of a line, which says the line again.
 #![tactic(auto)]
 
-#[cfg(test)]
-mod forms_tests;
 pub mod member;
 pub mod object;
 pub mod text;

@@ -8,7 +8,6 @@ ghost use Rattle.ov_index.specs.Index.{key_taken};
 use super::Index;
 use crate::name::Name;
 use crate::names::{make_room, owner_of, put_all, take_all};
-use crate::places::{put_at, take_at};
 use ov_base::{Memory, Transport};
 use ov_keys::KeyRec;
 use ov_model::{PeerId, Settled, Slot};
@@ -25,7 +24,7 @@ impl Index {
         let Some(serial) = owner_of(&self.owners, Name::Id(id.get())) else {
             return None;
         };
-        let Some(peer) = take_at(&mut self.peers, serial as usize) else {
+        let Some(peer) = self.peers.take_at(serial as usize) else {
             unreachable!();
         };
         take_all(&mut self.owners, &peer);
@@ -39,7 +38,7 @@ impl Index {
           live = tables.without_first (tables.has_serial serial) self.old.live;
         } }
     {
-        let Some(peer) = take_at(&mut self.peers, serial as usize) else {
+        let Some(peer) = self.peers.take_at(serial as usize) else {
             return None;
         };
         take_all(&mut self.owners, &peer);
@@ -55,11 +54,11 @@ impl Index {
         } }
         ensures long { length self.new.live ≡ length self.old.live }
     {
-        let Some(mut peer) = take_at(&mut self.peers, serial as usize) else {
+        let Some(mut peer) = self.peers.take_at(serial as usize) else {
             return false;
         };
         peer.sent(now, inner, outer, ping);
-        put_at(&mut self.peers, serial as usize, peer);
+        self.peers.put_at(serial as usize, peer);
         true
     }
 
@@ -114,11 +113,11 @@ impl Index {
               self.old.live;
         } }
     {
-        let Some(mut peer) = take_at(&mut self.peers, serial as usize) else {
+        let Some(mut peer) = self.peers.take_at(serial as usize) else {
             return false;
         };
         peer.settle(now, None, settled, inner, outer);
-        put_at(&mut self.peers, serial as usize, peer);
+        self.peers.put_at(serial as usize, peer);
         true
     }
 
@@ -132,13 +131,13 @@ impl Index {
         ensures err { OnErr result (self.new ≡ self.old) }
     {
         make_room(&mut self.owners)?;
-        let Some(mut peer) = take_at(&mut self.peers, serial as usize) else {
+        let Some(mut peer) = self.peers.take_at(serial as usize) else {
             return Ok(());
         };
         take_all(&mut self.owners, &peer);
         peer.float(to);
         put_all(&mut self.owners, &peer);
-        put_at(&mut self.peers, serial as usize, peer);
+        self.peers.put_at(serial as usize, peer);
         Ok(())
     }
 
@@ -160,11 +159,11 @@ impl Index {
             unreachable!();
         };
         self.homes.push(serial)?;
-        let Some(mut peer) = take_at(&mut self.peers, serial as usize) else {
+        let Some(mut peer) = self.peers.take_at(serial as usize) else {
             unreachable!();
         };
         let was = peer.install(slot, key);
-        put_at(&mut self.peers, serial as usize, peer);
+        self.peers.put_at(serial as usize, peer);
         Ok(was)
     }
 
@@ -177,11 +176,11 @@ impl Index {
         } }
         ensures long { length self.new.live ≡ length self.old.live }
     {
-        let Some(mut peer) = take_at(&mut self.peers, serial as usize) else {
+        let Some(mut peer) = self.peers.take_at(serial as usize) else {
             return None;
         };
         let killed = peer.kill(key);
-        put_at(&mut self.peers, serial as usize, peer);
+        self.peers.put_at(serial as usize, peer);
         killed
     }
 }

@@ -10,8 +10,8 @@ ghost use Rattle.ov_index.specs.Ticks.{facts_of, is_asked};
 use super::Index;
 use crate::name::Name;
 use crate::names::{make_room, owner_of, put_all, take_all};
-use crate::places::{put_at, take_at, views_of};
-use crate::ticks::{count_in, facts_in, ranked_in};
+use crate::places::views_of;
+use crate::ticks::{facts_in, ranked_in};
 use ov_base::Memory;
 use ov_keepalive::TickFacts;
 use ov_keys::KeyRec;
@@ -37,13 +37,13 @@ impl Index {
         let Some(serial) = owner_of(&self.owners, Name::Id(attrs.id.get())) else {
             return Ok(());
         };
-        let Some(mut peer) = take_at(&mut self.peers, serial as usize) else {
+        let Some(mut peer) = self.peers.take_at(serial as usize) else {
             unreachable!();
         };
         take_all(&mut self.owners, &peer);
         peer.set(now, attrs);
         put_all(&mut self.owners, &peer);
-        put_at(&mut self.peers, serial as usize, peer);
+        self.peers.put_at(serial as usize, peer);
         Ok(())
     }
 
@@ -58,11 +58,11 @@ impl Index {
         let Some(serial) = owner_of(&self.owners, Name::Id(id.get())) else {
             return;
         };
-        let Some(mut peer) = take_at(&mut self.peers, serial as usize) else {
+        let Some(mut peer) = self.peers.take_at(serial as usize) else {
             unreachable!();
         };
         peer.swap();
-        put_at(&mut self.peers, serial as usize, peer);
+        self.peers.put_at(serial as usize, peer);
     }
 
     /// Takes what stands in a slot of the live peer with an id out of it, where there is one.
@@ -77,11 +77,11 @@ impl Index {
         let Some(serial) = owner_of(&self.owners, Name::Id(id.get())) else {
             return None;
         };
-        let Some(mut peer) = take_at(&mut self.peers, serial as usize) else {
+        let Some(mut peer) = self.peers.take_at(serial as usize) else {
             unreachable!();
         };
         let taken = peer.take(slot);
-        put_at(&mut self.peers, serial as usize, peer);
+        self.peers.put_at(serial as usize, peer);
         taken
     }
 
@@ -90,7 +90,7 @@ impl Index {
         ensures { IfOk result (λ views. views.items ≡
             map tables.view_of (tables.by_rising_id self.now.live)) }
     {
-        let mut views = views_of(alloc, &self.peers)?;
+        let mut views = views_of(alloc, self.peers.as_slice())?;
         views.sort_unstable_by_key(|view| view.id.get());
         Ok(views)
     }
@@ -101,15 +101,15 @@ impl Index {
         ensures { IfOk result (λ facts. facts.items ≡
             map facts_of (filter (is_asked now) (tables.by_rising_id self.now.live))) }
     {
-        let mut ranked = ranked_in(alloc, &self.peers, now)?;
+        let mut ranked = ranked_in(alloc, self.peers.as_slice(), now)?;
         ranked.sort_unstable_by_key(|one| one.id);
         facts_in(alloc, &ranked)
     }
 
-    /// How many peers are live. It looks at each place.
+    /// How many peers are live. It is kept, and no place is looked at.
     pub fn len(&self) -> usize
         ensures { result ≡ length self.now.live }
     {
-        count_in(&self.peers)
+        self.peers.count()
     }
 }

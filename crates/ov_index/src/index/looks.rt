@@ -9,7 +9,7 @@ ghost use Rattle.ov_index.specs.Names.{has_name};
 use super::Index;
 use crate::name::{Name, remote_name, vpn_name};
 use crate::names::owner_of;
-use crate::places::{home_of, standing};
+use crate::places::home_of;
 use ov_base::{Addr, Transport};
 use ov_model::{Attrs, PeerId};
 use ov_peer::Peer;
@@ -20,7 +20,7 @@ impl Index {
         ensures { option_copied result ≡ find (has_name name) self.now.live }
     {
         match owner_of(&self.owners, name) {
-            Some(serial) => standing(&self.peers, serial as usize),
+            Some(serial) => self.peers.standing(serial as usize),
             None => None,
         }
     }
@@ -52,7 +52,7 @@ impl Index {
     pub fn by_serial(&self, serial: u32) -> Option<&Peer>
         ensures { option_copied result ≡ tables.by_serial serial self.now.live }
     {
-        standing(&self.peers, serial as usize)
+        self.peers.standing(serial as usize)
     }
 
     /// The live peer that has the key with a serial in a slot.
@@ -60,7 +60,7 @@ impl Index {
         ensures { option_copied result ≡ find (model.has_key key) self.now.live }
     {
         let home = home_of(&self.homes, key)?;
-        let peer = standing(&self.peers, home as usize)?;
+        let peer = self.peers.standing(home as usize)?;
         if peer.slots.by_key(key).is_none() {
             return None;
         }
@@ -161,7 +161,7 @@ impl Index {
         let Some(serial) = owner_of(&self.owners, name) else {
             return false;
         };
-        match standing(&self.peers, serial as usize) {
+        match self.peers.standing(serial as usize) {
             Some(peer) => peer.id.get() != id.get(),
             None => false,
         }

@@ -15,6 +15,7 @@ use ov_base::{Boxed, ListOf, Memory};
 use ov_keys::KeyRec;
 use ov_model::limits::{MOST_KEYS, MOST_PEERS};
 use ov_model::{Attrs, Command, Errno, KeyConf, NoteBody, PeerId, Reason, Reply};
+use std::alloc::Global;
 
 impl Peers {
     /// One command that isn't of many peers, at the moment `now`.
@@ -120,10 +121,9 @@ impl Peers {
             unreachable!();
         };
         let serial = peer.serial;
-        let reply = Reply::Removed(ListOf::of_vec(Vec::from_slice(self.alloc, &[serial])?));
-        let kept = Reply::Removed(ListOf::of_vec(Vec::from_slice(self.alloc, &[serial])?));
         self.dying.make_room(1, self.made)?;
         self.retired.make_room(2, self.keys_made)?;
+        let (reply, kept) = removed_twice(self.alloc, serial)?;
         let Some(mut peer) = self.live.remove(id) else {
             unreachable!();
         };
@@ -173,8 +173,8 @@ impl Peers {
             return Ok(self.refuse(now, Errno::NoSpace));
         }
         let serial = self.keys_made;
-        let key = KeyRec::of(self.alloc, serial, conf)?;
         self.retired.make_room(1, self.keys_made)?;
+        let key = KeyRec::of(self.alloc, serial, conf)?;
         let was = self.live.install(conf.peer, conf.slot, key)?;
         let first = retire(&mut self.retired, was);
         self.keys_made += 1;
@@ -187,4 +187,15 @@ impl Peers {
             second: None,
         })
     }
+}
+
+/// What the removal of the peer with a serial is answered, twice. `Err` is want of memory.
+fn removed_twice(alloc: Global, serial: u32) -> Result<(Reply, Reply), Memory>
+    ensures reply { IfOk result (λ r. r.0 ≡ reply.Removed (serial ∷ [])) }
+    ensures kept { IfOk result (λ r. r.1 ≡ reply.Removed (serial ∷ [])) }
+{
+    let answered = Vec::from_slice(alloc, &[serial])?;
+    let kept = Vec::from_slice(alloc, &[serial])?;
+    let answered = Reply::Removed(ListOf::of_vec(answered));
+    Ok((answered, Reply::Removed(ListOf::of_vec(kept))))
 }

@@ -56,12 +56,17 @@ impl Peers {
         ensures same { unreleased self.new ≡ unreleased self.old }
     {
         self.moment = now;
-        let none = Reply::Refused(Errno::NoEntry);
         let Some(peer) = self.live.by_id(id) else {
-            return Outcome::plain(none, Reply::Refused(Errno::NoEntry));
+            return Outcome::plain(
+                Reply::Refused(Errno::NoEntry),
+                Reply::Refused(Errno::NoEntry),
+            );
         };
         let Some(key) = peer.slots.at(slot) else {
-            return Outcome::plain(none, Reply::Refused(Errno::NoEntry));
+            return Outcome::plain(
+                Reply::Refused(Errno::NoEntry),
+                Reply::Refused(Errno::NoEntry),
+            );
         };
         let view = KeyView {
             peer: id,

@@ -18,7 +18,7 @@ use ov_notes::NoteLog;
 use std::alloc::Global;
 
 impl Peers {
-    /// How many peers are live. It looks at each place of the index.
+    /// How many peers are live. The index keeps it.
     pub fn live_count(&self) -> usize
         ensures count { result ≡ length self.now.live }
         ensures most { result ≤ 4096 }
@@ -74,8 +74,10 @@ impl Peers {
         ensures ok { OnOk result (self.new ≡ (removal self.old now reason gone.now).after) }
         ensures notes { OnOk result (notes.new.notes ≡
             notes.old.notes ++ numbered entry (removal self.old now reason gone.now).notes) }
-        ensures taken { OnOk result (taken.new.items ≡ (removal self.old now reason gone.now).taken) }
-        ensures more { OnOk result (unreleased self.new ≤ unreleased self.old + 2 * length gone.now) }
+        ensures taken { OnOk result (taken.new.items ≡
+            (removal self.old now reason gone.now).taken) }
+        ensures more { OnOk result (unreleased self.new ≤
+            unreleased self.old + 2 * length gone.now) }
         ensures err { OnErr result (self.new ≡ self.old) }
         ensures err_notes { OnErr result (notes.new ≡ notes.old) }
         ensures err_taken { OnErr result (taken.new.items ≡ taken.old.items) }

@@ -51,8 +51,8 @@ impl Peers {
         ensures err { OnErr result (self.new ≡ self.old) }
     {
         let settled = find::settled_as(&self.live, peer, kind);
-        let done = Outcome::plain(Reply::Settled(settled), Reply::Settled(settled));
         let there = self.live.settle(peer, now, from, settled, inner, outer)?;
+        let done = Outcome::plain(Reply::Settled(settled), Reply::Settled(settled));
         self.moment = now;
         if there {
             return Ok(done);

@@ -1,17 +1,10 @@
-use Rattle.std.proofs.Common.{arith, ◌≤◌, ◌≡◌, ◌<◌, ◌∙◌, refl, ap, length, true, false, Bool}
-use Rattle.std.specs.Prelude.{Option, Some, None, slice_get, is_some}
+use Rattle.std.proofs.Common.{arith, ◌≤◌, ◌≡◌, ◌<◌, ◌∙◌, refl, ap, length}
+use Rattle.std.specs.Prelude.{Some, None, slice_get}
 use Rattle.std.proofs.lemmas.Option.{slice_get_read}
 use Rattle.ov_index.specs.Gone.{holes_in_front}
+use Rattle.ov_index.proofs.Counted.{hole_of, one_of}
 use Rattle.ov_index.proofs.Listed.{front_hole, front_there, front_within}
 use Rattle.ov_index.proofs.places.count_front.Goals as goal
-
-hole_of : {X : Type 0} (o : Option X) → is_some o ≡ false → o ≡ None
-hole_of None is = refl
-hole_of (Some x) is = absurd (let e : ◌≡◌ {A = Bool} true false = is in cc)
-
-one_of : {X : Type 0} (o : Option X) → is_some o ≡ true → (x : X) × (o ≡ Some x)
-one_of None is = absurd (let e : ◌≡◌ {A = Bool} false true = is in cc)
-one_of (Some x) is = (x, refl)
 
 pub loop-place-preserved : goal.loop-place-preserved
 loop-place-preserved g c =

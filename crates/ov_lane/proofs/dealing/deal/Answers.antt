@@ -1,7 +1,7 @@
 use Rattle.std.proofs.Common.{◌≡◌, ◌+◌, ◌++◌, ◌∷◌, [], ℕ, List, length, length-append, add-one, sym, ap, subst, ◌∙◌, arith}
 use Rattle.std.specs.Option.{option_to_list}
 use Rattle.ov_turn.specs.Seats.{name_of}
-use Rattle.ov_lane.specs.Within.{HasRoom}
+use Rattle.ov_ticket.specs.Within.{HasRoom}
 use Rattle.ov_lane.specs.Passes.{Passing, fresh, fresh_from}
 use Rattle.std.specs.List.{AllByRecursion}
 use Rattle.ov_lane.proofs.Gathering.{length_fresh, fresh_more, all_front}

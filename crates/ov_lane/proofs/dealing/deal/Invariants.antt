@@ -2,7 +2,7 @@ use Rattle.std.proofs.Common.{◌≡◌, ◌+◌, ◌*◌, length}
 use Rattle.std.specs.List.{AllByRecursion}
 use Rattle.std.specs.Vec.{vec_capacity}
 use Rattle.ov_turn.specs.Seats.{share_of, name_of}
-use Rattle.ov_lane.specs.Within.{HasRoom}
+use Rattle.ov_ticket.specs.Within.{HasRoom}
 use Rattle.ov_lane.specs.Passes.{fresh_from}
 use Rattle.ov_lane.specs.Inner.{IsBlank}
 use Rattle.ov_lane.proofs.dealing.deal.Given as goal

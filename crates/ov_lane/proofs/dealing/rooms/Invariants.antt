@@ -1,6 +1,6 @@
 use Rattle.std.proofs.Common.{◌≡◌, length}
 use Rattle.std.specs.List.{AllByRecursion}
-use Rattle.ov_lane.specs.Within.{HasRoom}
+use Rattle.ov_ticket.specs.Within.{HasRoom}
 use Rattle.ov_lane.proofs.dealing.rooms.Given as goal
 
 abbrev pub invariant-loop-number : goal.invariant-loop-number

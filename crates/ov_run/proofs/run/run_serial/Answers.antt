@@ -1,9 +1,11 @@
--- The script was read whole and run: its report is legal. Where nothing was read, there is no stop to tell.
-use Rattle.std.proofs.Common.{[], sym, ◌∙◌}
+-- The script was read whole, or made, and run: its report is legal. Where nothing was read, there is no stop to tell.
+use Rattle.std.proofs.Common.{[], refl, sym, ◌∙◌}
 use Rattle.std.proofs.KnownBytes.{Consumes-nil}
 use Rattle.ov_script.proofs.Judging.{early_stops, gave_some, none_given}
+use Rattle.ov_script.specs.Reading.{counted_lines}
+use Rattle.ov_made.specs.Made.{made}
 use Rattle.ov_run.specs.Clauses.{lanes_read}
-use Rattle.ov_run.proofs.Reporting.{reported, all_counted, stop_counted, stop_named, cause_told, was_read}
+use Rattle.ov_run.proofs.Reporting.{reported, was_given, was_made, asked, wrote_part, all_counted, none_counted, stop_counted, stop_named, cause_told, was_read}
 use Rattle.ov_run.proofs.run.run_serial.Goals as goal
 
 pub returns-in-Err-Usage-clause-taken : goal.returns-in-Err-Usage-clause-taken
@@ -51,8 +53,31 @@ returns-in-Err-clause-counted g c = λ taken gave. rw c.cause_of.ensures (stop_c
 
 pub returns-in-Ok-outcome-clause-outcome : goal.returns-in-Ok-outcome-clause-outcome
 returns-in-Ok-outcome-clause-outcome g c = reported _ c.in-Ok.plan _ _ c.ran.result.report c.in-Ok-outcome.script c.in-Ok.ensures.plan c.ran.ensures.ran c.ran.ensures.legal c.ran.ensures.lanes
-    (rw c.in-Ok-outcome.is at c.read_script-good.ensures.ended) (rw c.in-Ok-outcome.is at c.read_script-good.ensures.script) (rw c.in-Ok-outcome.is at c.read_script-good.ensures.no_stop)
+    (was_given c.in-Ok.plan _ _ c.in-Ok-outcome.script c.in_default.not-Make
+    (rw c.in-Ok-outcome.is at c.read_script-good.ensures.ended) (rw c.in-Ok-outcome.is at c.read_script-good.ensures.script) (rw c.in-Ok-outcome.is at c.read_script-good.ensures.no_stop))
 
 pub returns-in-Ok-outcome-clause-counted : goal.returns-in-Ok-outcome-clause-counted
-returns-in-Ok-outcome-clause-counted g c = λ taken gave. all_counted taken c.in-Ok-outcome.script c.read_script-good.result.good c.ran.result.read_lines c.ran.result.report c.ran.result.cause _ _ _ _
+returns-in-Ok-outcome-clause-counted g c = λ taken gave. all_counted taken c.in-Ok-outcome.script c.read_script-good.result.good c.ran.result.read_lines c.ran.result.report c.ran.result.cause _ _ _ _ _
     ((rw c.in-Ok-outcome.is at c.read_script-good.ensures.script) taken gave).1 ((rw c.in-Ok-outcome.is at c.read_script-good.ensures.counted) taken gave) c.ran.ensures.lines c.ran.ensures.cause
+
+pub returns-in-Ok-outcome-clause-write_fault : goal.returns-in-Ok-outcome-clause-write_fault
+returns-in-Ok-outcome-clause-write_fault g c = λ is. wrote_part c.ran.result.cause _ _ _ _ _ _ c.ran.result.report (asked _ c.in-Ok.plan c.in-Ok.ensures.plan) c.ran.ensures.cause is
+
+pub returns-in-Make-clause-taken : goal.returns-in-Make-clause-taken
+returns-in-Make-clause-taken g c = gave_some _ _ [] (Consumes-nil (g.S.Source.left c.args.source.now))
+
+pub returns-in-Make-clause-early : goal.returns-in-Make-clause-early
+returns-in-Make-clause-early g c = λ event taken gave early. absurd (none_given lanes_read _ taken gave event (early_stops lanes_read taken event early))
+
+pub returns-in-Make-clause-told : goal.returns-in-Make-clause-told
+returns-in-Make-clause-told g c = λ calm event taken gave first. absurd (none_given lanes_read _ taken gave event first)
+
+pub returns-in-Make-clause-outcome : goal.returns-in-Make-clause-outcome
+returns-in-Make-clause-outcome g c = reported _ c.in-Ok.plan _ _ c.made_ran.result.report (made c.in-Ok.plan.seed c.in-Ok.plan.count) c.in-Ok.ensures.plan c.made_ran.ensures.ran c.made_ran.ensures.legal c.made_ran.ensures.lanes
+    (was_made c.in-Ok.plan _ (made c.in-Ok.plan.seed c.in-Ok.plan.count) c.in-Make.is refl)
+
+pub returns-in-Make-clause-read_lines : goal.returns-in-Make-clause-read_lines
+returns-in-Make-clause-read_lines g c = λ taken gave used. record { good = []; others = counted_lines taken; pieces_are = refl; number = c.made_ran.ensures.lines; all_good = ([], tt) }
+
+pub returns-in-Make-clause-counted : goal.returns-in-Make-clause-counted
+returns-in-Make-clause-counted g c = λ taken gave. none_counted _ taken c.made_ran.result.read_lines c.made_ran.result.report c.made_ran.result.cause _ _ _ _ _ gave c.made_ran.ensures.lines c.made_ran.ensures.cause

@@ -1,7 +1,6 @@
 -- One peer more is removed.
-use Rattle.std.proofs.Common.{rules, arith, ℕ, ◌≡◌, ◌≤◌, ◌<◌, ◌+◌, ◌*◌, ◌++◌, ◌∷◌, List, length, get_or, ap, sym, subst, ◌∙◌}
-use Rattle.std.specs.Prelude.{map, drop, vec_len, option_to_list}
-use Rattle.std.specs.Vec.{vec_capacity}
+use Rattle.std.proofs.Common.{arith, ℕ, ◌≡◌, ◌+◌, ◌++◌, ◌∷◌, List, length, get_or, ap, sym, subst, ◌∙◌}
+use Rattle.std.specs.Prelude.{map, drop, option_to_list}
 use Rattle.std.proofs.lemmas.List.{drop_more}
 use Rattle.ov_index.specs.Index.{Indexed}
 use Rattle.ov_model.specs.Runs.{numbered}

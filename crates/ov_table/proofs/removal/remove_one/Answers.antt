@@ -1,4 +1,4 @@
-use Rattle.std.proofs.Common.{arith, ◌≡◌, ◌≤◌, ◌∙◌, sym, ap}
+use Rattle.std.proofs.Common.{arith, ◌≡◌, ◌∙◌, sym, ap}
 use Rattle.std.specs.Prelude.{Some}
 use Rattle.ov_model.specs.Tables.{Peer, has_serial, by_serial}
 use Rattle.ov_table.proofs.Apart.{slots_apart, dying_joins}

@@ -1,8 +1,8 @@
-use Rattle.std.proofs.Common.{rules, ◌≡◌, ◌<◌, subst, [], ◌∷◌}
+use Rattle.std.proofs.Common.{rules, ◌≡◌, subst, [], ◌∷◌}
 use Rattle.std.specs.Prelude.{Option, Some}
 use Rattle.ov_model.specs.Tables.{Key, key_if_any, key_serials}
 use Rattle.ov_table.specs.Apart.{Apart}
-use Rattle.ov_table.proofs.Apart.{MayJoin, may_join}
+use Rattle.ov_table.proofs.Apart.{may_join}
 use Rattle.ov_table.proofs.retired.retire.Goals as goal
 
 pub join-requires-clause-serial : goal.join-requires-clause-serial

@@ -1,7 +1,7 @@
 -- What is given back.
 use Rattle.std.proofs.Common.{◌≡◌, sym, refl, subst, ap, slice_set}
 use Rattle.ov_core.specs.contracts.world.World.{the_view}
-use Rattle.ov_core.specs.Pasts.{gave}
+use Rattle.ov_past.specs.Pasts.{gave}
 use Rattle.ov_core.specs.Seats.{Seated, Kept, GivesBack, shown_of, given_back, after_gave}
 use Rattle.ov_core.proofs.Leaving.{EventDone, did_at, same_world}
 use Rattle.ov_core.proofs.Asking.{gave_done, gave_is, gave_spare}

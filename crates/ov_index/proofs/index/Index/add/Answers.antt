@@ -1,4 +1,4 @@
-use Rattle.std.proofs.Common.{rules, ◌∙◌, ap, ◌≡◌, cond, ◌+◌, ◌++◌, ◌∷◌, [], subst}
+use Rattle.std.proofs.Common.{rules, ◌∙◌, ap, ◌≡◌, cond, ◌+◌, ◌++◌, ◌∷◌, [], subst, length, length-append}
 use Rattle.std.specs.Prelude.{Some, vec_len}
 use Rattle.ov_model.specs.Tables.{Peer}
 use Rattle.std.specs.HashMap.{get}
@@ -31,6 +31,6 @@ returns-clause-ok c =
     let items : c.push.new.self.items ≡ c.self.inside.peers.items ++ Some p ∷ [] = search rules in
     let was : present c.self.inside.peers.items ≡ c.args.self.now.live = ap (λ x. x.live) c.self.view_is in
     let live : present c.push.new.self.items ≡ c.args.self.now.live ++ p ∷ [] = ap present items ∙ present_more c.self.inside.peers.items p ∙ ap (λ ps. ps ++ p ∷ []) was in
-    let made : vec_len c.push.new.self ≡ c.args.self.now.made + 1 = search rules in
+    let made : length c.push.new.self.items ≡ c.args.self.now.made + 1 = ap length items ∙ length-append c.self.inside.peers.items (Some p ∷ []) ∙ ap (λ x. x.made + 1) c.self.view_is in
     let keys : vec_len c.self.inside.homes ≡ c.args.self.now.keys_made = search rules in
     λ i. record { live = live i; made = made i; keys_made = keys i }

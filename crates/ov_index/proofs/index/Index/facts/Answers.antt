@@ -22,7 +22,7 @@ returns c =
     let up : IsNonDecreasingBy (λ (r : Ranked). r.id) c.sort_unstable_by_key.new.self.items = IsNonDecreasingBy-from_sort_by_key (λ (r : Ranked). r.id) _ c.sort_unstable_by_key.ensures.sorted (λ a r q k. search rules) in
     let once = live_once (get same_name c.self.inside.owners) c.self.inside.homes.items c.self.inside.peers.items c.self.invariant in
     let sorted : c.sort_unstable_by_key.new.self.items ≡ map ranked_of (by_rising_id asked) = sorted_made ranked_of (λ (r : Ranked). r.id) (λ p. refl) asked c.sort_unstable_by_key.new.self.items (once_kept (is_asked c.args.now) live once) moved up in
-    let lent : c.deref-2.result.now ≡ c.sort_unstable_by_key.new.self.items = search rules in
-    let same : map (λ (r : Ranked). r.facts) c.deref-2.result.now ≡ map facts_of (filter (is_asked c.args.now) (by_rising_id c.args.self.now.live)) =
+    let lent : c.deref.result.now ≡ c.sort_unstable_by_key.new.self.items = search rules in
+    let same : map (λ (r : Ranked). r.facts) c.deref.result.now ≡ map facts_of (filter (is_asked c.args.now) (by_rising_id c.args.self.now.live)) =
     ap (λ (rs : List Ranked). map (λ (r : Ranked). r.facts) rs) (lent ∙ sorted) ∙ facts_made (by_rising_id asked) ∙ ap (λ (ps : List Peer). map facts_of ps) (rising_kept (is_asked c.args.now) live once ∙ ap (λ ps. filter (is_asked c.args.now) (by_rising_id ps)) was) in
     subst (λ fs. IfOk c.facts_in.result (λ facts. facts.items ≡ fs)) same c.facts_in.ensures

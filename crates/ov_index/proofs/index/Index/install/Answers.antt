@@ -26,7 +26,7 @@ put_at-requires c =
 
 pub invariant_of-self-2 : goal.invariant_of-self-2
 invariant_of-self-2 c =
-    let items : c.put_at.new.slots.items ≡ slice_set c.self.inside.peers.items c.in-Some.serial (Some c.install-was.new.self) = c.put_at.ensures ∙ ap (λ xs. slice_set xs c.in-Some.serial (Some c.install-was.new.self)) c.take_at.ensures.now ∙ set_set c.self.inside.peers.items c.in-Some.serial None (Some c.install-was.new.self) in
+    let items : c.put_at.new.self.items ≡ slice_set c.self.inside.peers.items c.in-Some.serial (Some c.install-was.new.self) = c.put_at.ensures ∙ ap (λ xs. slice_set xs c.in-Some.serial (Some c.install-was.new.self)) c.take_at.ensures.now ∙ set_set c.self.inside.peers.items c.in-Some.serial None (Some c.install-was.new.self) in
     let homes : c.push.new.self.items ≡ c.self.inside.homes.items ++ c.in-Some.serial ∷ [] = search rules in
     rw (items, homes) (got_key (get same_name c.self.inside.owners) c.self.inside.homes.items c.self.inside.peers.items c.in-Some.serial c.in-Some-take_at.peer c.install-was.new.self c.args.slot c.args.key c.self.invariant (search rules) c.install-was.ensures.now (search rules))
 
@@ -39,13 +39,13 @@ returns-clause-was c = λ p found.
 
 pub returns-clause-now : goal.returns-clause-now
 returns-clause-now c =
-    let items : c.put_at.new.slots.items ≡ slice_set c.self.inside.peers.items c.in-Some.serial (Some c.install-was.new.self) = c.put_at.ensures ∙ ap (λ xs. slice_set xs c.in-Some.serial (Some c.install-was.new.self)) c.take_at.ensures.now ∙ set_set c.self.inside.peers.items c.in-Some.serial None (Some c.install-was.new.self) in
+    let items : c.put_at.new.self.items ≡ slice_set c.self.inside.peers.items c.in-Some.serial (Some c.install-was.new.self) = c.put_at.ensures ∙ ap (λ xs. slice_set xs c.in-Some.serial (Some c.install-was.new.self)) c.take_at.ensures.now ∙ set_set c.self.inside.peers.items c.in-Some.serial None (Some c.install-was.new.self) in
     let was : present c.self.inside.peers.items ≡ c.args.self.now.live = ap (λ x. x.live) c.self.view_is in
     let at = named_at (get same_name c.self.inside.owners) c.self.inside.homes.items c.self.inside.peers.items c.self.invariant (Id c.args.id.number) c.in-Some.serial c.in-Some-take_at.peer (search rules) (standing_at c.self.inside.peers.items c.in-Some.serial c.in-Some-take_at.peer (search rules)) in
     let f : Peer → Peer = with_key c.args.slot c.args.key in
     let is : c.install-was.new.self ≡ f c.in-Some-take_at.peer = c.install-was.ensures.now in
     let live = ap present items ∙ ap (λ x. present (slice_set c.self.inside.peers.items c.in-Some.serial (Some x))) is ∙ sym (at.changed f) ∙ ap (change_first (has_id c.args.id) f) was in
-    let made : vec_len c.put_at.new.slots ≡ c.args.self.now.made = search rules in
+    let made : length c.put_at.new.self.items ≡ c.args.self.now.made = search rules in
     let keys : vec_len c.push.new.self ≡ c.args.self.now.keys_made + 1 = search rules in
     λ i. record { live = live i; made = made i; keys_made = keys i }
 

@@ -40,7 +40,7 @@ returns-clause-now c =
     let was : present c.self.inside.peers.items ≡ c.args.self.now.live = ap (λ x. x.live) c.self.view_is in
     let at = named_at (get same_name c.self.inside.owners) c.self.inside.homes.items c.self.inside.peers.items c.self.invariant (Id c.args.id.number) c.in-Some.serial c.in-Some-take_at.peer (search rules) (standing_at c.self.inside.peers.items c.in-Some.serial c.in-Some-take_at.peer (search rules)) in
     let live = ap present c.take_at.ensures.now ∙ sym at.without ∙ ap (without_first (has_id c.args.id)) was in
-    let made : vec_len c.take_at.new.slots ≡ c.args.self.now.made = search rules in
+    let made : length c.take_at.new.self.items ≡ c.args.self.now.made = search rules in
     let keys : vec_len c.self.inside.homes ≡ c.args.self.now.keys_made = search rules in
     λ i. record { live = live i; made = made i; keys_made = keys i }
 

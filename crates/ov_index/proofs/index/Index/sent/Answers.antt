@@ -12,16 +12,16 @@ use Rattle.ov_index.proofs.Returned.{peer_back, peer_missing, one_changed}
 use Rattle.ov_index.proofs.index.Index.sent.Goals as goal
 
 pub invariant_of-self : goal.invariant_of-self
-invariant_of-self c = rw (peer_missing (get same_name c.self.inside.owners) c.self.inside.homes.items c.self.inside.peers.items c.take_at.new.slots.items c.args.serial c.self.invariant (search rules) c.take_at.ensures.now).items c.self.invariant
+invariant_of-self c = rw (peer_missing (get same_name c.self.inside.owners) c.self.inside.homes.items c.self.inside.peers.items c.take_at.new.self.items c.args.serial c.self.invariant (search rules) c.take_at.ensures.now).items c.self.invariant
 
 pub returns-in_default-clause-there : goal.returns-in_default-clause-there
-returns-in_default-clause-there c = sym (peer_missing (get same_name c.self.inside.owners) c.self.inside.homes.items c.self.inside.peers.items c.take_at.new.slots.items c.args.serial c.self.invariant (search rules) c.take_at.ensures.now).any ∙ ap (λ (x : Indexed). is_there c.args.serial x.live) c.self.view_is
+returns-in_default-clause-there c = sym (peer_missing (get same_name c.self.inside.owners) c.self.inside.homes.items c.self.inside.peers.items c.take_at.new.self.items c.args.serial c.self.invariant (search rules) c.take_at.ensures.now).any ∙ ap (λ (x : Indexed). is_there c.args.serial x.live) c.self.view_is
 
 pub returns-in_default-clause-peers : goal.returns-in_default-clause-peers
 returns-in_default-clause-peers c =
     let f : Peer → Peer = sent_peer c.args.now c.args.inner c.args.outer c.args.ping in
-    let stay = peer_missing (get same_name c.self.inside.owners) c.self.inside.homes.items c.self.inside.peers.items c.take_at.new.slots.items c.args.serial c.self.invariant (search rules) c.take_at.ensures.now in
-    one_changed c.args.serial f (record { live = present c.self.inside.peers.items; made = vec_len c.self.inside.peers; keys_made = vec_len c.self.inside.homes }) (record { live = present c.take_at.new.slots.items; made = vec_len c.take_at.new.slots; keys_made = vec_len c.self.inside.homes }) c.args.self.now c.self.view_is (stay.changed f) (search rules) refl
+    let stay = peer_missing (get same_name c.self.inside.owners) c.self.inside.homes.items c.self.inside.peers.items c.take_at.new.self.items c.args.serial c.self.invariant (search rules) c.take_at.ensures.now in
+    one_changed c.args.serial f (record { live = present c.self.inside.peers.items; made = length c.self.inside.peers.items; keys_made = vec_len c.self.inside.homes }) (record { live = present c.take_at.new.self.items; made = length c.take_at.new.self.items; keys_made = vec_len c.self.inside.homes }) c.args.self.now c.self.view_is (stay.changed f) (search rules) refl
 
 pub put_at-requires : goal.put_at-requires
 put_at-requires c =
@@ -30,15 +30,15 @@ put_at-requires c =
 
 pub invariant_of-self-2 : goal.invariant_of-self-2
 invariant_of-self-2 c =
-    rw (peer_back (get same_name c.self.inside.owners) c.self.inside.homes.items c.self.inside.peers.items c.take_at.new.slots.items c.put_at.new.slots.items c.args.serial (sent_peer c.args.now c.args.inner c.args.outer c.args.ping) c.in-Some.peer c.sent.new.self c.self.invariant (search rules) c.take_at.ensures.now c.put_at.ensures c.sent.ensures).items (alike_kept (get same_name c.self.inside.owners) c.self.inside.homes.items c.self.inside.peers.items c.args.serial c.in-Some.peer ((sent_peer c.args.now c.args.inner c.args.outer c.args.ping) c.in-Some.peer) c.self.invariant (search rules) (sent_alike c.args.now c.args.inner c.args.outer c.args.ping c.in-Some.peer))
+    rw (peer_back (get same_name c.self.inside.owners) c.self.inside.homes.items c.self.inside.peers.items c.take_at.new.self.items c.put_at.new.self.items c.args.serial (sent_peer c.args.now c.args.inner c.args.outer c.args.ping) c.in-Some.peer c.sent.new.self c.self.invariant (search rules) c.take_at.ensures.now c.put_at.ensures c.sent.ensures).items (alike_kept (get same_name c.self.inside.owners) c.self.inside.homes.items c.self.inside.peers.items c.args.serial c.in-Some.peer ((sent_peer c.args.now c.args.inner c.args.outer c.args.ping) c.in-Some.peer) c.self.invariant (search rules) (sent_alike c.args.now c.args.inner c.args.outer c.args.ping c.in-Some.peer))
 
 pub returns-clause-there : goal.returns-clause-there
-returns-clause-there c = sym (peer_back (get same_name c.self.inside.owners) c.self.inside.homes.items c.self.inside.peers.items c.take_at.new.slots.items c.put_at.new.slots.items c.args.serial (sent_peer c.args.now c.args.inner c.args.outer c.args.ping) c.in-Some.peer c.sent.new.self c.self.invariant (search rules) c.take_at.ensures.now c.put_at.ensures c.sent.ensures).any ∙ ap (λ (x : Indexed). is_there c.args.serial x.live) c.self.view_is
+returns-clause-there c = sym (peer_back (get same_name c.self.inside.owners) c.self.inside.homes.items c.self.inside.peers.items c.take_at.new.self.items c.put_at.new.self.items c.args.serial (sent_peer c.args.now c.args.inner c.args.outer c.args.ping) c.in-Some.peer c.sent.new.self c.self.invariant (search rules) c.take_at.ensures.now c.put_at.ensures c.sent.ensures).any ∙ ap (λ (x : Indexed). is_there c.args.serial x.live) c.self.view_is
 
 pub returns-clause-peers : goal.returns-clause-peers
 returns-clause-peers c =
     let f : Peer → Peer = sent_peer c.args.now c.args.inner c.args.outer c.args.ping in
-    one_changed c.args.serial f (record { live = present c.self.inside.peers.items; made = vec_len c.self.inside.peers; keys_made = vec_len c.self.inside.homes }) (record { live = present c.put_at.new.slots.items; made = vec_len c.put_at.new.slots; keys_made = vec_len c.self.inside.homes }) c.args.self.now c.self.view_is (peer_back (get same_name c.self.inside.owners) c.self.inside.homes.items c.self.inside.peers.items c.take_at.new.slots.items c.put_at.new.slots.items c.args.serial (sent_peer c.args.now c.args.inner c.args.outer c.args.ping) c.in-Some.peer c.sent.new.self c.self.invariant (search rules) c.take_at.ensures.now c.put_at.ensures c.sent.ensures).changed (search rules) refl
+    one_changed c.args.serial f (record { live = present c.self.inside.peers.items; made = length c.self.inside.peers.items; keys_made = vec_len c.self.inside.homes }) (record { live = present c.put_at.new.self.items; made = length c.put_at.new.self.items; keys_made = vec_len c.self.inside.homes }) c.args.self.now c.self.view_is (peer_back (get same_name c.self.inside.owners) c.self.inside.homes.items c.self.inside.peers.items c.take_at.new.self.items c.put_at.new.self.items c.args.serial (sent_peer c.args.now c.args.inner c.args.outer c.args.ping) c.in-Some.peer c.sent.new.self c.self.invariant (search rules) c.take_at.ensures.now c.put_at.ensures c.sent.ensures).changed (search rules) refl
 
 pub returns-in_default-clause-long : goal.returns-in_default-clause-long
 returns-in_default-clause-long c = ap (λ (x : Indexed). length x.live) (returns-in_default-clause-peers c) ∙ length_changed (has_serial c.args.serial) (sent_peer c.args.now c.args.inner c.args.outer c.args.ping) c.args.self.now.live

@@ -20,7 +20,7 @@ invariant_of-self-in_default c = (same_index (get same_name c.self.inside.owners
 
 pub invariant_of-self-2 : goal.invariant_of-self-2
 invariant_of-self-2 c =
-    let items : c.put_at.new.slots.items ≡ slice_set c.self.inside.peers.items c.in-Some.serial (Some c.set.new.self) = c.put_at.ensures ∙ ap (λ xs. slice_set xs c.in-Some.serial (Some c.set.new.self)) c.take_at.ensures.now ∙ set_set c.self.inside.peers.items c.in-Some.serial None (Some c.set.new.self) in
+    let items : c.put_at.new.self.items ≡ slice_set c.self.inside.peers.items c.in-Some.serial (Some c.set.new.self) = c.put_at.ensures ∙ ap (λ xs. slice_set xs c.in-Some.serial (Some c.set.new.self)) c.take_at.ensures.now ∙ set_set c.self.inside.peers.items c.in-Some.serial None (Some c.set.new.self) in
     let was : present c.self.inside.peers.items ≡ c.args.self.now.live = ap (λ x. x.live) c.self.view_is in
     let there = (same_index (get same_name c.self.inside.owners) (get same_name c.make_room.new.owners) c.self.inside.homes.items c.self.inside.peers.items c.make_room.ensures.same c.self.invariant) in
     let id = c.args.attrs.now.id in
@@ -35,7 +35,7 @@ returns-in_default-clause-now c =
     let was : present c.self.inside.peers.items ≡ c.args.self.now.live = ap (λ x. x.live) c.self.view_is in
     let f : Peer → Peer = set_peer c.args.now c.args.attrs.now in
     let live = id_nowhere (get same_name c.make_room.new.owners) c.self.inside.homes.items c.self.inside.peers.items (same_index (get same_name c.self.inside.owners) (get same_name c.make_room.new.owners) c.self.inside.homes.items c.self.inside.peers.items c.make_room.ensures.same c.self.invariant) c.args.attrs.now.id f (search rules) ∙ ap (change_first (has_id c.args.attrs.now.id) f) was in
-    let made : vec_len c.self.inside.peers ≡ c.args.self.now.made = search rules in
+    let made : length c.self.inside.peers.items ≡ c.args.self.now.made = search rules in
     let keys : vec_len c.self.inside.homes ≡ c.args.self.now.keys_made = search rules in
     λ i. record { live = live i; made = made i; keys_made = keys i }
 
@@ -46,11 +46,11 @@ put_at-requires c =
 
 pub returns-clause-now : goal.returns-clause-now
 returns-clause-now c =
-    let items : c.put_at.new.slots.items ≡ slice_set c.self.inside.peers.items c.in-Some.serial (Some c.set.new.self) = c.put_at.ensures ∙ ap (λ xs. slice_set xs c.in-Some.serial (Some c.set.new.self)) c.take_at.ensures.now ∙ set_set c.self.inside.peers.items c.in-Some.serial None (Some c.set.new.self) in
+    let items : c.put_at.new.self.items ≡ slice_set c.self.inside.peers.items c.in-Some.serial (Some c.set.new.self) = c.put_at.ensures ∙ ap (λ xs. slice_set xs c.in-Some.serial (Some c.set.new.self)) c.take_at.ensures.now ∙ set_set c.self.inside.peers.items c.in-Some.serial None (Some c.set.new.self) in
     let was : present c.self.inside.peers.items ≡ c.args.self.now.live = ap (λ x. x.live) c.self.view_is in
     let f : Peer → Peer = set_peer c.args.now c.args.attrs.now in
-    let live = id_changed (get same_name c.make_room.new.owners) c.self.inside.homes.items c.self.inside.peers.items c.put_at.new.slots.items (same_index (get same_name c.self.inside.owners) (get same_name c.make_room.new.owners) c.self.inside.homes.items c.self.inside.peers.items c.make_room.ensures.same c.self.invariant) c.args.attrs.now.id c.in-Some.serial c.in-Some-take_at.peer c.set.new.self f (search rules) (search rules) items c.set.ensures ∙ ap (change_first (has_id c.args.attrs.now.id) f) was in
-    let made : vec_len c.put_at.new.slots ≡ c.args.self.now.made = search rules in
+    let live = id_changed (get same_name c.make_room.new.owners) c.self.inside.homes.items c.self.inside.peers.items c.put_at.new.self.items (same_index (get same_name c.self.inside.owners) (get same_name c.make_room.new.owners) c.self.inside.homes.items c.self.inside.peers.items c.make_room.ensures.same c.self.invariant) c.args.attrs.now.id c.in-Some.serial c.in-Some-take_at.peer c.set.new.self f (search rules) (search rules) items c.set.ensures ∙ ap (change_first (has_id c.args.attrs.now.id) f) was in
+    let made : length c.put_at.new.self.items ≡ c.args.self.now.made = search rules in
     let keys : vec_len c.self.inside.homes ≡ c.args.self.now.keys_made = search rules in
     λ i. record { live = live i; made = made i; keys_made = keys i }
 

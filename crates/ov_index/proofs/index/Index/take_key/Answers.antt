@@ -23,7 +23,7 @@ returns-clause-was c =
 
 pub invariant_of-self : goal.invariant_of-self
 invariant_of-self c =
-    let items : c.put_at.new.slots.items ≡ slice_set c.self.inside.peers.items c.in-Some.serial (Some c.take-taken.new.self) = c.put_at.ensures ∙ ap (λ xs. slice_set xs c.in-Some.serial (Some c.take-taken.new.self)) c.take_at.ensures.now ∙ set_set c.self.inside.peers.items c.in-Some.serial None (Some c.take-taken.new.self) in
+    let items : c.put_at.new.self.items ≡ slice_set c.self.inside.peers.items c.in-Some.serial (Some c.take-taken.new.self) = c.put_at.ensures ∙ ap (λ xs. slice_set xs c.in-Some.serial (Some c.take-taken.new.self)) c.take_at.ensures.now ∙ set_set c.self.inside.peers.items c.in-Some.serial None (Some c.take-taken.new.self) in
     rw items (no_more_keys (get same_name c.self.inside.owners) c.self.inside.homes.items c.self.inside.peers.items c.in-Some.serial c.in-Some-take_at.peer c.take-taken.new.self (with_slot c.args.slot None) c.self.invariant (search rules) c.take-taken.ensures.now (key_of_emptied c.args.slot c.in-Some-take_at.peer.slots))
 
 pub returns-in_default-clause-now : goal.returns-in_default-clause-now
@@ -40,11 +40,11 @@ put_at-requires c =
 
 pub returns-clause-now : goal.returns-clause-now
 returns-clause-now c =
-    let items : c.put_at.new.slots.items ≡ slice_set c.self.inside.peers.items c.in-Some.serial (Some c.take-taken.new.self) = c.put_at.ensures ∙ ap (λ xs. slice_set xs c.in-Some.serial (Some c.take-taken.new.self)) c.take_at.ensures.now ∙ set_set c.self.inside.peers.items c.in-Some.serial None (Some c.take-taken.new.self) in
+    let items : c.put_at.new.self.items ≡ slice_set c.self.inside.peers.items c.in-Some.serial (Some c.take-taken.new.self) = c.put_at.ensures ∙ ap (λ xs. slice_set xs c.in-Some.serial (Some c.take-taken.new.self)) c.take_at.ensures.now ∙ set_set c.self.inside.peers.items c.in-Some.serial None (Some c.take-taken.new.self) in
     let was : present c.self.inside.peers.items ≡ c.args.self.now.live = ap (λ x. x.live) c.self.view_is in
     let f : Peer → Peer = with_slots (with_slot c.args.slot None) in
-    let live = id_changed (get same_name c.self.inside.owners) c.self.inside.homes.items c.self.inside.peers.items c.put_at.new.slots.items c.self.invariant c.args.id c.in-Some.serial c.in-Some-take_at.peer c.take-taken.new.self f (search rules) (search rules) items c.take-taken.ensures.now ∙ ap (change_first (has_id c.args.id) f) was in
-    let made : vec_len c.put_at.new.slots ≡ c.args.self.now.made = search rules in
+    let live = id_changed (get same_name c.self.inside.owners) c.self.inside.homes.items c.self.inside.peers.items c.put_at.new.self.items c.self.invariant c.args.id c.in-Some.serial c.in-Some-take_at.peer c.take-taken.new.self f (search rules) (search rules) items c.take-taken.ensures.now ∙ ap (change_first (has_id c.args.id) f) was in
+    let made : length c.put_at.new.self.items ≡ c.args.self.now.made = search rules in
     let keys : vec_len c.self.inside.homes ≡ c.args.self.now.keys_made = search rules in
     λ i. record { live = live i; made = made i; keys_made = keys i }
 

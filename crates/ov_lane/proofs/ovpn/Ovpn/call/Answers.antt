@@ -1,7 +1,8 @@
 use Rattle.std.proofs.Common.{rules, ◌≡◌, ℕ, ◌+◌, subst}
 use Rattle.ov_turn.specs.Seats.{Sight, sight_of}
 use Rattle.ov_model.specs.declared.entry.Entry.{Entry}
-use Rattle.ov_lane.specs.Passes.{IsOrderly, IsCalled}
+use Rattle.ov_ticket.specs.Tickets.{IsCalled}
+use Rattle.ov_lane.specs.Passes.{IsOrderly}
 use Rattle.ov_lane.specs.Inner.{name_in, sight_in}
 use Rattle.ov_lane.proofs.Ordering.{orderly_called}
 use Rattle.ov_lane.proofs.ovpn.Ovpn.call.Goals as goal

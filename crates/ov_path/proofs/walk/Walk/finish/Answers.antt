@@ -8,4 +8,4 @@ pub returns-in-Ok-clause-then : goal.returns-in-Ok-clause-then
 returns-in-Ok-clause-then g c = finish_by (Ok c.in-Ok.answer) _ _ c.requires.1 (sym c.in-Ok.is ∙ c.into_answer.ensures.ends ∙ ap ends c.replace.ensures.value) c.owed.ensures.first c.is_some.ensures c.if-is_some.false
 
 pub returns-in-Err-clause-then : goal.returns-in-Err-clause-then
-returns-in-Err-clause-then g c = finish_by (Err c.in-Err.stage) _ _ c.requires.1 (sym c.in-Err.is ∙ c.into_answer.ensures.ends ∙ ap ends c.replace.ensures.value) c.owed.ensures.first c.is_some.ensures c.if-is_some.false
+returns-in-Err-clause-then g c = rw c.enter.ensures (finish_by (Err c.in-Err.stage) _ _ c.requires.1 (sym c.in-Err.is ∙ c.into_answer.ensures.ends ∙ ap ends c.replace.ensures.value) c.owed.ensures.first c.is_some.ensures c.if-is_some.false)

@@ -5,7 +5,7 @@ use Rattle.ov_model.specs.Step.{slots_changed}
 use Rattle.ov_index.specs.Index.{Indexed, slot_of}
 use Rattle.ov_table.specs.Apart.{Apart}
 use Rattle.ov_table.proofs.Outcomes.{some_of}
-use Rattle.ov_table.proofs.Apart.{ApartIn, del_apart, deleted_apart}
+use Rattle.ov_table.proofs.Apart.{del_apart, deleted_apart}
 use Rattle.ov_table.proofs.peers.Peers.key_del.Goals as goal
 
 pub retire-first-requires-clause-apart : goal.retire-first-requires-clause-apart

@@ -1,13 +1,13 @@
-use Rattle.std.proofs.Common.{rules, arith, ◌≡◌, ◌≤◌, ◌+◌, ◌++◌, ◌∷◌, [], ◌∙◌, refl, sym, ap, length, List, false}
-use Rattle.std.specs.Prelude.{Some, nat_le}
+use Rattle.std.proofs.Common.{rules, arith, ◌≡◌, ◌≤◌, ◌+◌, ◌++◌, ◌∙◌, ap, length, false}
+use Rattle.std.specs.Prelude.{nat_le}
 use Rattle.std.proofs.lemmas.Bool.Decides.{nat_tests}
 use Rattle.ov_model.specs.Limits.{most_keys}
-use Rattle.ov_model.specs.Tables.{Peer, Table, by_id, in_slot, key_if_any, key_serials, serials_of, keys_of}
+use Rattle.ov_model.specs.Tables.{Table, by_id, in_slot, key_if_any, key_serials}
 use Rattle.ov_model.specs.Step.{key_made}
 use Rattle.ov_index.specs.Index.{Indexed}
 use Rattle.ov_table.specs.Apart.{Apart}
 use Rattle.ov_table.proofs.Outcomes.{some_of}
-use Rattle.ov_table.proofs.Apart.{ApartIn, replaced_apart, key_apart}
+use Rattle.ov_table.proofs.Apart.{replaced_apart, key_apart}
 use Rattle.ov_table.proofs.peers.Peers.key_new_there.Goals as goal
 
 pub retire-first-requires-clause-apart : goal.retire-first-requires-clause-apart

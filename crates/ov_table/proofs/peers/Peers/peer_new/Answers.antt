@@ -1,8 +1,8 @@
-use Rattle.std.proofs.Common.{rules, arith, ◌≡◌, ◌≤◌, ◌+◌, ◌++◌, ◌∷◌, [], ◌∙◌, refl, sym, ap, length, length-append, List}
-use Rattle.ov_model.specs.Tables.{Peer, Table, serials_of, keys_of}
+use Rattle.std.proofs.Common.{arith, ◌≡◌, ◌≤◌, ◌+◌, ◌++◌, ◌∷◌, [], ◌∙◌, refl, ap, length, length-append}
+use Rattle.ov_model.specs.Tables.{Peer, Table}
 use Rattle.ov_model.specs.Step.{peer_of}
 use Rattle.ov_index.specs.Index.{Indexed}
-use Rattle.ov_table.proofs.Apart.{ApartIn, new_apart}
+use Rattle.ov_table.proofs.Apart.{new_apart}
 use Rattle.ov_table.proofs.peers.Peers.peer_new.Goals as goal
 
 pub invariant_of-self-2 : goal.invariant_of-self-2

@@ -1,5 +1,5 @@
-use Rattle.std.proofs.Common.{arith, ◌≡◌, ◌≤◌, ◌+◌, ◌∙◌, refl, ap, length, List, ℕ, Bool}
-use Rattle.ov_model.specs.Tables.{Peer, Key, change_first, has_id, serials_of, keys_of}
+use Rattle.std.proofs.Common.{arith, ◌≡◌, ◌≤◌, ◌+◌, ◌∙◌, refl, ap, length, Bool}
+use Rattle.ov_model.specs.Tables.{Peer, change_first, has_id, serials_of, keys_of}
 use Rattle.ov_model.specs.Step.{set_peer}
 use Rattle.ov_model.proofs.Shapes.{Kept}
 use Rattle.ov_index.specs.Index.{Indexed}

@@ -1,4 +1,4 @@
-use Rattle.std.proofs.Common.{arith, ◌≡◌, ◌≤◌, ◌+◌, ◌∙◌, sym, ap, length, true}
+use Rattle.std.proofs.Common.{arith, ◌≡◌, ◌+◌, ◌∙◌, sym, ap, length, true}
 use Rattle.ov_model.specs.Tables.{Key, Table, keys_of, key_serials}
 use Rattle.ov_model.specs.Step as model
 use Rattle.ov_table.specs.Recorded.{unreleased}

@@ -1,5 +1,4 @@
-use Rattle.std.proofs.Common.{rules, arith, ◌≡◌, ◌≤◌, ◌+◌, ◌∙◌, ap, length}
-use Rattle.ov_index.specs.Index.{Indexed}
+use Rattle.std.proofs.Common.{arith}
 use Rattle.ov_model.specs.Tables.{serials_of, keys_of, key_serials}
 use Rattle.ov_table.proofs.Apart.{part}
 use Rattle.ov_table.proofs.peers.Peers.remove_all.Goals as goal

@@ -2,9 +2,9 @@ use Rattle.std.proofs.Common.{rules, arith, None, ◌≡◌, ◌≤◌, ◌+◌,
 use Rattle.std.specs.Prelude.{Some}
 use Rattle.ov_model.specs.Step.{spent_key}
 use Rattle.ov_index.specs.Index.{Indexed, key_taken}
-use Rattle.ov_model.specs.Tables.{Peer, Key, Table, by_serial, by_key, has_serial}
+use Rattle.ov_model.specs.Tables.{Table, by_serial, by_key, has_serial}
 use Rattle.ov_table.proofs.Outcomes.{any_found, not_both}
-use Rattle.ov_table.proofs.Apart.{ApartIn, spent_joins, spent_apart}
+use Rattle.ov_table.proofs.Apart.{spent_joins, spent_apart}
 use Rattle.ov_table.proofs.peers.Peers.spend_there.Goals as goal
 
 pub unreachable-requires : goal.unreachable-requires

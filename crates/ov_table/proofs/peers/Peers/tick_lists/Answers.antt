@@ -1,4 +1,4 @@
-use Rattle.std.proofs.Common.{rules, arith, ℕ, ◌≡◌, ◌≤◌, ◌+◌, ◌∙◌, ap, subst, List}
+use Rattle.std.proofs.Common.{rules, ℕ, ◌≡◌, ◌∙◌, ap, subst, List}
 use Rattle.std.specs.Prelude.{map, filter, Some}
 use Rattle.ov_keepalive.specs.Rule as rule
 use Rattle.ov_model.specs.declared.command.Reason.TheVariants.{Expired}

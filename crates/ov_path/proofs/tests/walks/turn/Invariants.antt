@@ -1,5 +1,0 @@
-use Rattle.ov_path.specs.Plain.{hop_or}
-use Rattle.ov_path.proofs.tests.walks.turn.Given as goal
-
-abbrev pub ghost-turn : goal.ghost-turn
-ghost-turn a = hop_or a.desk.now.hop

@@ -1,0 +1,2 @@
+-- What each call makes of the plain desk.
+pub mod Plain

@@ -1,0 +1,4 @@
+pub mod Within
+pub mod Asks
+pub mod Asked
+pub mod Tickets
