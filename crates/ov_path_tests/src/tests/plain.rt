@@ -276,7 +276,7 @@ impl Desk for Plain {
 
     ghost keeps = { λ p q. q.hop ≡ p.hop };
 
-    ghost keeps_itself = { λ d. refl };
+    ghost keeps_itself = { λ d i. d.hop };
 
     fn table(&mut self, place: Place, call: &Call) -> Result<Reply, Memory> {
         let reply = self.decide(&call.act)?;
