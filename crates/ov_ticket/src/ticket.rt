@@ -1,10 +1,11 @@
 //! Calls at the table, each under a ticket of its own.
 ghost use Rattle.std.specs.Prelude.{◌≡◌, ◌<◌, [], IfOk, OnErr};
 ghost use Rattle.std.specs.VecDeque.{deque_len};
-ghost use Rattle.ov_turn.specs.Seats.{IsSeatOf, cells_of, holds_of, owes_of, sight_of};
+ghost use Rattle.ov_turn.specs.Seats.{IsSeatOf, cells_of, holds_of, owes_of, seen_of, sight_of};
 ghost use Rattle.ov_turn.specs.Insides.{IsIn};
 ghost use Rattle.ov_ticket.specs.Within.{HasRoom};
-ghost use Rattle.ov_ticket.specs.Asks.{OwedFits, MayAsk};
+ghost use Rattle.ov_model.specs.Runs.{last_table};
+ghost use Rattle.ov_ticket.specs.Asks.{OwedFits, MayAsk, found_pair};
 ghost use Rattle.ov_ticket.specs.Asked.{IsEntered};
 ghost use Rattle.ov_ticket.specs.Tickets.{IsCalled, HasSeen, StepAt, ReleasedAt};
 
@@ -12,6 +13,7 @@ use crate::asked::make;
 use crate::within::{release_one, serve};
 use ov_base::Memory;
 use ov_hold::Held;
+use ov_keys::KeyPair;
 use ov_model::{Call, Command, Owed, Place, Reply};
 use ov_table::Table;
 use ov_turn::{Inside, LockSeat, TicketLock};
@@ -62,7 +64,7 @@ fn enter<'a, R: Wait>(
 /// Takes the lock, makes one step of the table, any but a release, and leaves. A look-up takes the holds on what it found,
 /// which go into `held`. What the step took out and nobody holds is listed in `owed`, the keys before the peers, each kind
 /// in its order: the seat owes its release. A key that is spent is held by the seat, so it is owed only once it is given
-/// back. `Err` is want of memory: then nothing was made, though more may have been seen.
+/// back. The two directions of a key that a look-up found are copied into `pair`, under the same ticket. `Err` is want of memory: then nothing was made, though more may have been seen.
 pub fn step_once<R: Wait>(
     rt: &R,
     lock: &TicketLock<Table>,
@@ -71,6 +73,7 @@ pub fn step_once<R: Wait>(
     call: &Call,
     held: &mut Held,
     owed: &mut VecDeque<Owed>,
+    pair: &mut Option<KeyPair>,
 ) -> (LockSeat<Table>, Result<Reply, Memory>)
     requires seat { IsSeatOf lock.now seat }
     requires cells { cells_of lock.now ≡ 69632 }
@@ -84,9 +87,11 @@ pub fn step_once<R: Wait>(
     ensures kept { OnErr result.1 (owed.new.items ≡ owed.old.items) }
     ensures held { held.new ≡ holds_of result.0 }
     ensures owed { OwedFits owed.new (owes_of result.0) }
+    ensures pair { IfOk result.1 (λ r. pair.new ≡ found_pair (last_table (seen_of result.0)) r pair.old) }
+    ensures kept_pair { OnErr result.1 (pair.new ≡ pair.old) }
 {
     let mut inside = enter(rt, lock, seat);
-    let reply = make(&mut inside, place, call, held, owed);
+    let reply = make(&mut inside, place, call, held, owed, pair);
     (inside.leave(), reply)
 }
 

@@ -1,0 +1,4 @@
+pub mod Shares
+pub mod Makings
+pub mod Keepings
+pub mod Passings
