@@ -40,7 +40,7 @@ use Rattle.ov_ticket.specs.Asks.{OwedFits, IsLow, found_cells, got_cells, FoundL
 use Rattle.ov_ticket.specs.Asked.{IsReady, IsAsked, MayHold, MayTidy, IsTidied, IsMade, spent_left}
 use Rattle.ov_ticket.proofs.Stepping.{none_has, linked_all}
 use Rattle.ov_ticket.proofs.Settling.{answered, both_all}
-use Rattle.ov_ticket.proofs.Looking.{peer_low, ReplyLives, Looks, tx_looks, rx_looks, keep_looks}
+use Rattle.ov_ticket.proofs.Looking.{peer_low, key_low, ReplyLives, Looks, tx_looks, rx_looks, keep_looks}
 use Rattle.ov_ticket.proofs.Asking.{may_ask, frees_none, owes_stay, all_low}
 
 -- ---- before the step
@@ -275,7 +275,7 @@ other_tidied it new a r held l is steady link unlink holds owes = found_tidied i
 -- ---- the step is the seat's entry
 
 found_low : (r : Recorded) → IsTold r → (q : Reply) → ReplyLives r.now q → FoundLow q
-found_low r told (reply.Hold h) is = let live = is.peer in peer_low r told h.peer (omega arith)
+found_low r told (reply.Hold h) is = ((let live = is.peer in peer_low r told h.peer (omega arith)), (let live = is.key in key_low r told h.key (omega arith)))
 found_low r told _ is = tt
 
 step_low : (r : Recorded) (at : ℕ) (a : Act) → IsTold r → GotLow a (step r.now (record { at = at; act = a })).reply
