@@ -1,0 +1,2 @@
+-- The turns of a line, one after the other.
+pub mod Turns
