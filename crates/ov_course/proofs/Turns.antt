@@ -7,9 +7,11 @@ use Rattle.ov_model.specs.declared.answer.Answer.{Answer}
 use Rattle.ov_model.specs.declared.line.Line.{Line}
 use Rattle.ov_model.specs.declared.place.Place.{Place}
 use Rattle.ov_model.specs.Events.{Event}
+use Rattle.ov_path.specs.declared.walk.Progress.{Progress}
+use Rattle.ov_path.specs.declared.walk.Progress.TheVariants.{More, Answered}
 use Rattle.ov_path.specs.declared.walk.Walk.{Walk}
 use Rattle.ov_path.specs.Desks.{View, SameLine}
-use Rattle.ov_path.specs.Walks.{IsOwn, GoesOn, Over, Made, MadeOrNone, made, nothing}
+use Rattle.ov_path.specs.Walks.{IsOwn, GoesOn, Over, Turned, Made, MadeOrNone, MadeBy, made, nothing}
 use Rattle.ov_course.specs.Runs.{Ran, LineDone, LineStopped}
 
 module _ {D : Type 0} where
@@ -35,9 +37,11 @@ module _ {D : Type 0} (view : D → View) (does : D → Event → D → Type 0) 
   going_ready via place line a b walk going = subst (λ p. GoesOn via p line (view b) walk.stage) (sym going.stood) going.goes
 
   -- A turn made an event, and the line goes on.
-  pub going_more : (via : Addr → Addr) (place : Place) (line : Line) (a b c : D) (walk next : Walk) → ((x y : D) (e : Event) → does x e y → (view y).via ≡ (view x).via) → Going via place line a b walk → next.place ≡ walk.place → GoesOn via next.place line (view c) next.stage → Made view does via walk.place line b c → Going via place line a c next
-  going_more via place line a b c walk next hops going same goes made_so =
-      let event : Made view does via place line b c = subst (λ p. Made view does via p line b c) going.stood made_so in
+  pub going_more : (via : Addr → Addr) (place : Place) (line : Line) (a b c : D) (walk next : Walk) (p : Progress) → p ≡ More → ((x y : D) (e : Event) → does x e y → (view y).via ≡ (view x).via) → Going via place line a b walk → next.place ≡ walk.place → Turned via line (view c) next p → MadeBy view does via walk.place line p b c → Going via place line a c next
+  going_more via place line a b c walk next p more hops going same then did =
+      let made_so : Made view does via walk.place line b c = subst (λ q. MadeBy view does via walk.place line q b c) more did in
+      let goes : GoesOn via next.place line (view c) next.stage = subst (λ q. Turned via line (view c) next q) more then in
+      let event : Made view does via place line b c = subst (λ x. Made view does via x line b c) going.stood made_so in
       record {
         stood = same ∙ going.stood;
         goes = subst (λ p. GoesOn via p line (view c) next.stage) (same ∙ going.stood) goes;
@@ -46,10 +50,10 @@ module _ {D : Type 0} (view : D → View) (does : D → Event → D → Type 0) 
       }
 
   -- A turn answered the line.
-  pub going_done : (via : Addr → Addr) (place : Place) (line : Line) (a b c : D) (walk next : Walk) (r : Answer) → Going via place line a b walk → next.place ≡ walk.place → Over via next.place line (view c) r → MadeOrNone view does via walk.place line b c → LineDone view does via place line a c r
-  going_done via place line a b c walk next r going same over made_so = record {
-    over = subst (λ p. Over via p line (view c) r) (same ∙ going.stood) over;
-    ran = happened (subst (λ p. MadeOrNone view does via p line b c) going.stood made_so);
+  pub going_done : (via : Addr → Addr) (place : Place) (line : Line) (a b c : D) (walk next : Walk) (p : Progress) (r : Answer) → p ≡ Answered r → Going via place line a b walk → next.place ≡ walk.place → Turned via line (view c) next p → MadeBy view does via walk.place line p b c → LineDone view does via place line a c r
+  going_done via place line a b c walk next p r answered going same then did = record {
+    over = subst (λ x. Over via x line (view c) r) (same ∙ going.stood) (subst (λ q. Turned via line (view c) next q) answered then);
+    ran = happened (subst (λ x. MadeOrNone view does via x line b c) going.stood (subst (λ q. MadeBy view does via walk.place line q b c) answered did));
   }
     where
       happened : MadeOrNone view does via place line b c → Ran does place line.at (view c).events a c
@@ -58,5 +62,5 @@ module _ {D : Type 0} (view : D → View) (does : D → Event → D → Type 0) 
 
   -- There was no memory for a turn.
   pub going_stopped : (keeps : D → D → Type 0) (via : Addr → Addr) (place : Place) (line : Line) (a b c : D) (walk : Walk) (r : Result Answer Memory) → Going via place line a b walk → SameLine (view b) (view c) → keeps b c → OnErr r (LineStopped view does keeps place line a c)
-  going_stopped keeps via place line a b c walk (Ok a) going same kept = tt
-  going_stopped keeps via place line a b c walk (Err e) going same kept = record { between = b; ran = going.ran; same = same; kept = kept }
+  going_stopped keeps via place line a b c walk (Ok answer) going same kept = tt
+  going_stopped keeps via place line a b c walk (Err memory) going same kept = record { between = b; ran = going.ran; same = same; kept = kept }

@@ -11,8 +11,8 @@ turn-requires g c = λ κs within.
 
 pub loop-preserved : goal.loop-preserved
 loop-preserved g c =
-    going_more g.D.Desk.view g.D.Desk.does g.via c.args.walk.now.place c.args.line.now c.args.desk.now c.loop.desk c.turn.new.desk c.loop.walk c.turn.new.self c.requires.1.1.1.1.1.0 c.loop.invariant c.turn.ensures.stays.place
-    (rw (← c.in-More.is) c.in_ok-turn.ensures.then) (rw (← c.in-More.is) c.in_ok-turn.ensures.made)
+    going_more g.D.Desk.view g.D.Desk.does g.via c.args.walk.now.place c.args.line.now c.args.desk.now c.loop.desk c.turn.new.desk c.loop.walk c.turn.new.self c.in_ok-turn.field-0 c.in-More.is c.requires.1.1.1.1.1.0 c.loop.invariant c.turn.ensures.stays.place
+    c.in_ok-turn.ensures.then c.in_ok-turn.ensures.made
 
 pub returns-in_err-turn-clause-err : goal.returns-in_err-turn-clause-err
 returns-in_err-turn-clause-err g c =
@@ -20,5 +20,5 @@ returns-in_err-turn-clause-err g c =
 
 pub returns-in-Answered-clause-ok : goal.returns-in-Answered-clause-ok
 returns-in-Answered-clause-ok g c =
-    going_done g.D.Desk.view g.D.Desk.does g.via c.args.walk.now.place c.args.line.now c.args.desk.now c.loop.desk c.turn.new.desk c.loop.walk c.turn.new.self c.in-Answered.answer c.loop.invariant c.turn.ensures.stays.place
-    (rw (← c.in-Answered.is) c.in_ok-turn.ensures.then) (rw (← c.in-Answered.is) c.in_ok-turn.ensures.made)
+    going_done g.D.Desk.view g.D.Desk.does g.via c.args.walk.now.place c.args.line.now c.args.desk.now c.loop.desk c.turn.new.desk c.loop.walk c.turn.new.self c.in_ok-turn.field-0 c.in-Answered.answer c.in-Answered.is c.loop.invariant c.turn.ensures.stays.place
+    c.in_ok-turn.ensures.then c.in_ok-turn.ensures.made
