@@ -9,7 +9,9 @@ use Rattle.ov_draw.specs.Drawer as draws
 use Rattle.ov_model.specs.declared.entry.Entry.{Entry}
 use Rattle.ov_model.specs.declared.note.Note.{Note}
 use Rattle.ov_model.specs.declared.replay.ReplayEntry.{ReplayEntry}
+use Rattle.ov_model.specs.Events.{steps_of}
 use Rattle.ov_model.specs.Limits.{shard_count}
+use Rattle.ov_model.specs.Own.{mine, steps_at}
 use Rattle.ov_model.specs.Replay.{ShardJudges}
 use Rattle.ov_model.specs.Runs.{IsRun, notes_of}
 use Rattle.ov_replay.specs.Desk.{part_at}
@@ -22,11 +24,12 @@ pub record Passing : Type 0 where
   pub share : Sharing
 
 -- What a pass has seen begins the journal, and the entries with its number are exactly its own, in order, each at its
--- position; and so are the replay steps of each shard.
+-- position, and so their steps; and so are the replay steps of each shard.
 pub record IsPart (journal : List Entry) (shards : List (List ReplayEntry)) (p : Passing) : Type 0 where
   pub seen : IsPrefix p.share.sight.seen journal
   pub own : filter (λ e. e.place.lane == p.number) journal ≡ map (λ e. e.1) p.share.sight.own
   pub at : AllByRecursion (λ e. get_elem? journal e.0 ≡ some e.1) p.share.sight.own
+  pub steps : steps_at journal p.share.sight.own ≡ mine p.number (steps_of journal)
   pub judged : (i : ℕ) → i < shard_count → filter (λ r. r.place.lane == p.number) (get_or shards i []) ≡ map (λ e. e.1) (part_at p.share.parts i).own
 
 -- Of a key, the ids that the passes have drawn are the numbers from the first up to an end, each once; where a pass found

@@ -51,7 +51,7 @@ abbrev pub blank_sight : ℕ → Sight Entry
 blank_sight share = record { share = share; seen = []; own = []; holds = []; owes = [] }
 
 -- A part of a shard that has so many shares and nothing else.
-record IsBlankPart (share : ℕ) (p : Part) : Type 0 where
+pub record IsBlankPart (share : ℕ) (p : Part) : Type 0 where
   pub share_is : p.share ≡ share
   pub seen : p.seen ≡ []
   pub own : p.own ≡ []

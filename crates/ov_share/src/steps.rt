@@ -4,6 +4,7 @@ ghost use Rattle.std.specs.VecDeque.{deque_len};
 ghost use Rattle.ov_base.specs.Sums.{count_of};
 ghost use Rattle.ov_hold.specs.Holds.{Owes};
 ghost use Rattle.ov_model.specs.Runs.{last_table};
+ghost use Rattle.ov_past.specs.Pasts.{event_of};
 ghost use Rattle.ov_replay.specs.Desk.{HasStepped, HasNotStepped};
 ghost use Rattle.ov_share.specs.Shares.{IsShareOf, HasDrawn};
 ghost use Rattle.ov_ticket.specs.Asks.{OwedFits, MayAsk, found_pair};
@@ -17,6 +18,7 @@ use ov_hold::Held;
 use ov_hold::give_back;
 use ov_keys::KeyPair;
 use ov_model::{Call, Command, Drawn, Given, Owed, Place, Reply, Verdict};
+use ov_past::Happening;
 use ov_ticket::{release_once, serve_once, step_once};
 use std::collections::VecDeque;
 use std::sync::Wait;
@@ -59,7 +61,8 @@ impl Words {
     }
 
     /// Makes one step of the table, any but a release, under a ticket. What a look-up finds is held, and the two directions
-    /// of its key are copied into `pair`. What a command leaves to the lane is listed in `owed`. `Err` is want of memory:
+    /// of its key are copied into `pair`. What a command leaves to the lane is listed in `owed`. The step is also told as an
+    /// event. `Err` is want of memory:
     /// then nothing was made, though more may have been seen.
     pub fn step<R: Wait>(
         &self,
@@ -70,7 +73,7 @@ impl Words {
         held: &mut Held,
         owed: &mut VecDeque<Owed>,
         pair: &mut Option<KeyPair>,
-    ) -> (Share, Result<Reply, Memory>)
+    ) -> (Share, Result<(Reply, Happening), Memory>)
         requires of { IsShareOf self.now share }
         requires asks { MayAsk share.sight.holds share.sight.owes call.now.act }
         requires held { held.old ≡ share.sight.holds }
@@ -78,13 +81,14 @@ impl Words {
         ensures of { IsShareOf self.now result.0 }
         ensures same { result.0 ≡ record share { sight = result.0.sight } }
         ensures ok { IfOk result.1 (λ r.
-            StepAt share.sight result.0.sight place call.now r owed.old.items owed.new.items) }
+            StepAt share.sight result.0.sight place call.now r.0 (event_of r.1) owed.old.items
+                owed.new.items) }
         ensures err { OnErr result.1 (HasSeen share.sight result.0.sight) }
         ensures kept { OnErr result.1 (owed.new.items ≡ owed.old.items) }
         ensures held { held.new ≡ result.0.sight.holds }
         ensures owed { OwedFits owed.new result.0.sight.owes }
         ensures pair { IfOk result.1 (λ r.
-            pair.new ≡ found_pair (last_table result.0.sight.seen) r pair.old) }
+            pair.new ≡ found_pair (last_table result.0.sight.seen) r.0 pair.old) }
         ensures kept_pair { OnErr result.1 (pair.new ≡ pair.old) }
     {
         let Share {
@@ -103,7 +107,7 @@ impl Words {
         )
     }
 
-    /// Makes the release that is listed first, under a ticket.
+    /// Makes the release that is listed first, under a ticket. It is also told as an event.
     pub fn release<R: Wait>(
         &self,
         rt: &R,
@@ -111,26 +115,30 @@ impl Words {
         place: Place,
         at: u32,
         owed: &mut VecDeque<Owed>,
-    ) -> Share
+    ) -> (Share, Happening)
         requires of { IsShareOf self.now share }
         requires owed { OwedFits owed.old share.sight.owes }
         requires some { 0 < deque_len owed.old }
-        ensures of { IsShareOf self.now result }
-        ensures same { result ≡ record share { sight = result.sight } }
-        ensures released { ReleasedAt share.sight result.sight place at owed.old.items owed.new.items }
-        ensures owed { OwedFits owed.new result.sight.owes }
+        ensures of { IsShareOf self.now result.0 }
+        ensures same { result.0 ≡ record share { sight = result.0.sight } }
+        ensures released { ReleasedAt share.sight result.0.sight place at (event_of result.1)
+            owed.old.items owed.new.items }
+        ensures owed { OwedFits owed.new result.0.sight.owes }
     {
         let Share {
             seat,
             parts,
             drawer,
         } = share;
-        let seat = release_once(rt, &self.lock, seat, place, at, owed);
-        Share {
-            seat,
-            parts,
-            drawer,
-        }
+        let (seat, event) = release_once(rt, &self.lock, seat, place, at, owed);
+        (
+            Share {
+                seat,
+                parts,
+                drawer,
+            },
+            event,
+        )
     }
 
     /// Gives back the hold on a cell. `Last` where nobody else holds it and it is on its way out: then its release is owed.

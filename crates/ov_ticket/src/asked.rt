@@ -6,6 +6,7 @@ ghost use Rattle.ov_base.specs.Sums.{count_of};
 ghost use Rattle.ov_turn.specs.Lists.{has, without};
 ghost use Rattle.ov_turn.specs.Insides.{IsSteady, kept_of, cells_in, holds_in, owes_in, to_link_in, to_unlink_in};
 ghost use Rattle.ov_model.specs.declared.reply.Reply.TheVariants as replies;
+ghost use Rattle.ov_past.specs.Pasts.{event_of};
 ghost use Rattle.ov_table.specs.Cells.{key_cell};
 ghost use Rattle.ov_ticket.specs.Within.{IsSettled, IsUntouched};
 ghost use Rattle.ov_ticket.specs.Asks.{OwedFits, found_cells, found_pair, got_cells};
@@ -16,6 +17,7 @@ use ov_base::Memory;
 use ov_hold::{Held, get, unlink};
 use ov_keys::KeyPair;
 use ov_model::{Act, Call, HoldView, Owed, Place, Reply};
+use ov_past::Happening;
 use ov_table::{KEY_CELLS, Table};
 use ov_turn::Inside;
 use std::collections::VecDeque;
@@ -111,7 +113,7 @@ fn keep_pair(inside: &mut Inside<'_, Table>, reply: &Reply, pair: &mut Option<Ke
     }
 }
 
-/// Makes a step of the table, any but a release. `Err` is want of memory: then nothing changed.
+/// Makes a step of the table, any but a release, and tells it as an event. `Err` is want of memory: then nothing changed.
 pub(crate) fn make(
     inside: &mut Inside<'_, Table>,
     place: Place,
@@ -119,21 +121,23 @@ pub(crate) fn make(
     held: &mut Held,
     owed: &mut VecDeque<Owed>,
     pair: &mut Option<KeyPair>,
-) -> Result<Reply, Memory>
+) -> Result<(Reply, Happening), Memory>
     requires ready { IsReady inside.old call.now.act }
     requires held { held.old ≡ holds_in inside.old }
     requires owed { OwedFits owed.old (owes_in inside.old) }
-    ensures ok { IfOk result (λ r. IsMade inside.old inside.new place call.now r owed.old.items owed.new.items) }
+    ensures ok { IfOk result (λ r.
+        IsMade inside.old inside.new place call.now r.0 (event_of r.1) owed.old.items owed.new.items) }
     ensures err { OnErr result (IsUntouched inside.old inside.new) }
     ensures settled { IsSettled inside.new }
     ensures kept { OnErr result (owed.new.items ≡ owed.old.items) }
     ensures held { held.new ≡ holds_in inside.new }
     ensures owed { OwedFits owed.new (owes_in inside.new) }
-    ensures pair { IfOk result (λ r. pair.new ≡ found_pair (kept_of inside.new).now r pair.old) }
+    ensures pair { IfOk result (λ r. pair.new ≡ found_pair (kept_of inside.new).now r.0 pair.old) }
     ensures kept_pair { OnErr result (pair.new ≡ pair.old) }
 {
     let reply = count(inside, place, call)?;
     tidy(inside, &call.act, &reply, held, owed);
     keep_pair(inside, &reply, pair);
-    Ok(reply)
+    let event = Happening::stepped(place, call, &reply, inside.kept());
+    Ok((reply, event))
 }
