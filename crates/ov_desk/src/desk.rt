@@ -26,8 +26,7 @@ pub struct LaneDesk<'a, R: Wait> {
     rt: &'a R,
     words: &'a Words,
     routes: &'a [Route],
-    // It is out only while a call has it.
-    share: Option<Share>,
+    share: Share,
     held: Held,
     owed: VecDeque<Owed>,
     // The two directions of the key that is held, copied under the ticket that found it.
