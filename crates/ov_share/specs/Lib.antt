@@ -2,3 +2,4 @@ pub mod Shares
 pub mod Makings
 pub mod Keepings
 pub mod Passings
+pub mod Inner

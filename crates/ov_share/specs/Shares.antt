@@ -30,14 +30,14 @@ pub record Common : Type 0 where
 -- What one lane has of them: of which lock its seat is and what that has seen, made, holds and owes, what it has of each
 -- replay shard, and what it has drawn.
 pub record Sharing : Type 0 where
-  pub name : Name
+  pub name : Option Name
   pub sight : Sight Entry
   pub parts : List Part
   pub drawer : Drawer
 
 -- A share is one of these words.
 pub record IsShareOf (w : Common) (s : Sharing) : Type 0 where
-  pub table : s.name ≡ w.name
+  pub table : s.name ≡ Some w.name
   pub shards : IsDeskSeat w.shards s.parts
   pub counters : s.drawer.of ≡ w.counters
 

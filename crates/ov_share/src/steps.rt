@@ -29,35 +29,28 @@ impl Words {
     pub fn serve<R: Wait>(
         &self,
         rt: &R,
-        share: Share,
+        share: &mut Share,
         place: Place,
         at: u32,
         command: &Command,
         owed: &mut VecDeque<Owed>,
-    ) -> (Share, Result<Reply, Memory>)
-        requires of { IsShareOf self.now share }
-        requires free { share.sight.owes ≡ [] }
+    ) -> Result<Reply, Memory>
+        requires of { IsShareOf self.now share.old }
+        requires free { share.old.sight.owes ≡ [] }
         requires room { HasRoom owed.old }
-        ensures of { IsShareOf self.now result.0 }
-        ensures same { result.0 ≡ record share { sight = result.0.sight } }
-        ensures ok { IfOk result.1 (λ r. IsCalled share.sight result.0.sight place at command.now r) }
-        ensures err { OnErr result.1 (HasSeen share.sight result.0.sight) }
+        ensures of { IsShareOf self.now share.new }
+        ensures same { share.new ≡ record share.old { sight = share.new.sight } }
+        ensures ok { IfOk result (λ r.
+            IsCalled share.old.sight share.new.sight place at command.now r) }
+        ensures err { OnErr result (HasSeen share.old.sight share.new.sight) }
         ensures room { HasRoom owed.new }
     {
-        let Share {
-            seat,
-            parts,
-            drawer,
-        } = share;
+        let Some(seat) = share.seat.take() else {
+            unreachable!()
+        };
         let (seat, reply) = serve_once(rt, &self.lock, seat, place, at, command, owed);
-        (
-            Share {
-                seat,
-                parts,
-                drawer,
-            },
-            reply,
-        )
+        share.seat = Some(seat);
+        reply
     }
 
     /// Makes one step of the table, any but a release, under a ticket. What a look-up finds is held, and the two directions
@@ -67,104 +60,83 @@ impl Words {
     pub fn step<R: Wait>(
         &self,
         rt: &R,
-        share: Share,
+        share: &mut Share,
         place: Place,
         call: &Call,
         held: &mut Held,
         owed: &mut VecDeque<Owed>,
         pair: &mut Option<KeyPair>,
-    ) -> (Share, Result<(Reply, Happening), Memory>)
-        requires of { IsShareOf self.now share }
-        requires asks { MayAsk share.sight.holds share.sight.owes call.now.act }
-        requires held { held.old ≡ share.sight.holds }
-        requires owed { OwedFits owed.old share.sight.owes }
-        ensures of { IsShareOf self.now result.0 }
-        ensures same { result.0 ≡ record share { sight = result.0.sight } }
-        ensures ok { IfOk result.1 (λ r.
-            StepAt share.sight result.0.sight place call.now r.0 (event_of r.1) owed.old.items
-                owed.new.items) }
-        ensures err { OnErr result.1 (HasSeen share.sight result.0.sight) }
-        ensures kept { OnErr result.1 (owed.new.items ≡ owed.old.items) }
-        ensures held { held.new ≡ result.0.sight.holds }
-        ensures owed { OwedFits owed.new result.0.sight.owes }
-        ensures pair { IfOk result.1 (λ r.
-            pair.new ≡ found_pair (last_table result.0.sight.seen) r.0 pair.old) }
-        ensures kept_pair { OnErr result.1 (pair.new ≡ pair.old) }
+    ) -> Result<(Reply, Happening), Memory>
+        requires of { IsShareOf self.now share.old }
+        requires asks { MayAsk share.old.sight.holds share.old.sight.owes call.now.act }
+        requires held { held.old ≡ share.old.sight.holds }
+        requires owed { OwedFits owed.old share.old.sight.owes }
+        ensures of { IsShareOf self.now share.new }
+        ensures same { share.new ≡ record share.old { sight = share.new.sight } }
+        ensures ok { IfOk result (λ r.
+            StepAt share.old.sight share.new.sight place call.now r.0 (event_of r.1)
+                owed.old.items owed.new.items) }
+        ensures err { OnErr result (HasSeen share.old.sight share.new.sight) }
+        ensures kept { OnErr result (owed.new.items ≡ owed.old.items) }
+        ensures held { held.new ≡ share.new.sight.holds }
+        ensures owed { OwedFits owed.new share.new.sight.owes }
+        ensures pair { IfOk result (λ r.
+            pair.new ≡ found_pair (last_table share.new.sight.seen) r.0 pair.old) }
+        ensures kept_pair { OnErr result (pair.new ≡ pair.old) }
     {
-        let Share {
-            seat,
-            parts,
-            drawer,
-        } = share;
-        let (seat, reply) = step_once(rt, &self.lock, seat, place, call, held, owed, pair);
-        (
-            Share {
-                seat,
-                parts,
-                drawer,
-            },
-            reply,
-        )
+        let Some(seat) = share.seat.take() else {
+            unreachable!()
+        };
+        let (seat, made) = step_once(rt, &self.lock, seat, place, call, held, owed, pair);
+        share.seat = Some(seat);
+        made
     }
 
     /// Makes the release that is listed first, under a ticket. It is also told as an event.
     pub fn release<R: Wait>(
         &self,
         rt: &R,
-        share: Share,
+        share: &mut Share,
         place: Place,
         at: u32,
         owed: &mut VecDeque<Owed>,
-    ) -> (Share, Happening)
-        requires of { IsShareOf self.now share }
-        requires owed { OwedFits owed.old share.sight.owes }
+    ) -> Happening
+        requires of { IsShareOf self.now share.old }
+        requires owed { OwedFits owed.old share.old.sight.owes }
         requires some { 0 < deque_len owed.old }
-        ensures of { IsShareOf self.now result.0 }
-        ensures same { result.0 ≡ record share { sight = result.0.sight } }
-        ensures released { ReleasedAt share.sight result.0.sight place at (event_of result.1)
+        ensures of { IsShareOf self.now share.new }
+        ensures same { share.new ≡ record share.old { sight = share.new.sight } }
+        ensures released { ReleasedAt share.old.sight share.new.sight place at (event_of result)
             owed.old.items owed.new.items }
-        ensures owed { OwedFits owed.new result.0.sight.owes }
+        ensures owed { OwedFits owed.new share.new.sight.owes }
     {
-        let Share {
-            seat,
-            parts,
-            drawer,
-        } = share;
+        let Some(seat) = share.seat.take() else {
+            unreachable!()
+        };
         let (seat, event) = release_once(rt, &self.lock, seat, place, at, owed);
-        (
-            Share {
-                seat,
-                parts,
-                drawer,
-            },
-            event,
-        )
+        share.seat = Some(seat);
+        event
     }
 
     /// Gives back the hold on a cell. `Last` where nobody else holds it and it is on its way out: then its release is owed.
-    pub fn give_back(&self, share: Share, held: &mut Held, cell: u32) -> (Share, Given)
-        requires of { IsShareOf self.now share }
+    pub fn give_back(&self, share: &mut Share, held: &mut Held, cell: u32) -> Given
+        requires of { IsShareOf self.now share.old }
         requires has { has cell held.old ≡ 1 }
-        requires holds { 0 < count_of cell share.sight.holds }
-        ensures of { IsShareOf self.now result.0 }
-        ensures same { result.0 ≡ record share { sight = record share.sight { holds = without cell share.sight.holds; owes = result.0.sight.owes } } }
-        ensures owes { Owes result.1 cell share.sight.owes result.0.sight.owes }
+        requires holds { 0 < count_of cell share.old.sight.holds }
+        ensures of { IsShareOf self.now share.new }
+        ensures same { share.new ≡ record share.old { sight = record share.old.sight {
+            holds = without cell share.old.sight.holds;
+            owes = share.new.sight.owes;
+        } } }
+        ensures owes { Owes result cell share.old.sight.owes share.new.sight.owes }
         ensures held { held.new ≡ without cell held.old }
     {
-        let Share {
-            mut seat,
-            parts,
-            drawer,
-        } = share;
+        let Some(mut seat) = share.seat.take() else {
+            unreachable!()
+        };
         let given = give_back(&self.lock, &mut seat, held, cell);
-        (
-            Share {
-                seat,
-                parts,
-                drawer,
-            },
-            given,
-        )
+        share.seat = Some(seat);
+        given
     }
 
     /// Asks the replay window of a key about a packet id, under a ticket of the key's shard. `Err` is want of memory: then
@@ -172,56 +144,30 @@ impl Words {
     pub fn judge<R: Wait>(
         &self,
         rt: &R,
-        share: Share,
+        share: &mut Share,
         place: Place,
         key: u32,
         id: u32,
         at: u32,
-    ) -> (Share, Result<Verdict, Memory>)
-        requires of { IsShareOf self.now share }
-        ensures of { IsShareOf self.now result.0 }
-        ensures same { result.0 ≡ record share { parts = result.0.parts } }
-        ensures ok { IfOk result.1 (λ v. HasStepped share.parts result.0.parts place key id at v) }
-        ensures err { OnErr result.1 (HasNotStepped share.parts result.0.parts key) }
+    ) -> Result<Verdict, Memory>
+        requires of { IsShareOf self.now share.old }
+        ensures of { IsShareOf self.now share.new }
+        ensures same { share.new ≡ record share.old { parts = share.new.parts } }
+        ensures ok { IfOk result (λ v.
+            HasStepped share.old.parts share.new.parts place key id at v) }
+        ensures err { OnErr result (HasNotStepped share.old.parts share.new.parts key) }
     {
-        let Share {
-            seat,
-            mut parts,
-            drawer,
-        } = share;
-        let verdict = self
-            .replays
-            .step(rt, &mut parts, place, key, id, at);
-        (
-            Share {
-                seat,
-                parts,
-                drawer,
-            },
-            verdict,
-        )
+        self.replays
+            .step(rt, &mut share.parts, place, key, id, at)
     }
 
     /// Asks the counter of a key for a packet id.
-    pub fn draw(&self, share: Share, key: u32) -> (Share, Drawn)
-        requires of { IsShareOf self.now share }
+    pub fn draw(&self, share: &mut Share, key: u32) -> Drawn
+        requires of { IsShareOf self.now share.old }
         requires key { key < 65536 }
-        ensures of { IsShareOf self.now result.0 }
-        ensures drew { HasDrawn share result.0 key result.1 }
+        ensures of { IsShareOf self.now share.new }
+        ensures drew { HasDrawn share.old share.new key result }
     {
-        let Share {
-            seat,
-            parts,
-            mut drawer,
-        } = share;
-        let drawn = self.draws.draw(&mut drawer, key);
-        (
-            Share {
-                seat,
-                parts,
-                drawer,
-            },
-            drawn,
-        )
+        self.draws.draw(&mut share.drawer, key)
     }
 }

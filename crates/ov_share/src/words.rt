@@ -1,8 +1,8 @@
 //! The words that all lanes share, and the shares of them: made, cut, put together and ended.
-ghost use Rattle.std.specs.Prelude.{◌≡◌, ℕ, ◌≤◌, ◌<◌, IfOk};
+ghost use Rattle.std.specs.Prelude.{◌≡◌, ℕ, ◌≤◌, ◌<◌, IfOk, Some};
 ghost use Rattle.ov_base.specs.Sums.{count_of};
-ghost use Rattle.ov_model.specs.Limits.{shard_count};
-ghost use Rattle.ov_replay.specs.Desk.{part_at, no_part};
+ghost use Rattle.ov_ticket.specs.Tickets.{HasSeen};
+ghost use Rattle.ov_turn.specs.Seats.{IsSeatOf, holds_of, name_of_seat, seen_of, sight_of};
 ghost use Rattle.ov_share.specs.Shares.{IsShareOf, IsFree, IsBlank, HasEnough, IsCutOff, IsBoth, OnlySaw, IsWholeShare, IsEnd};
 
 use ov_base::{ListOf, Memory};
@@ -39,18 +39,21 @@ impl Model for Words {
 /// history and of each shard's, which steps are its own, what it holds and owes, and what it has drawn.
 #[derive(Drop)]
 pub struct Share {
-    pub(crate) seat: LockSeat<Table>,
+    // It is out only while a step has it.
+    pub(crate) seat: Option<LockSeat<Table>>,
     pub(crate) parts: DeskSeat,
     pub(crate) drawer: DrawSeat,
 }
 
 impl Model for Share {
-    ghost use Rattle.ov_turn.specs.Seats.{name_of_seat, sight_of};
+    ghost use Rattle.ov_share.specs.Inner.{name_in, sight_in, IsThere};
     ghost use Rattle.ov_share.specs.Shares.{Sharing};
 
     ghost Value = { Sharing };
 
-    ghost view = { λ s. record { name = name_of_seat s.seat; sight = sight_of s.seat; parts = s.parts; drawer = s.drawer } };
+    ghost view = { λ s. record { name = name_in s.seat; sight = sight_in s.seat; parts = s.parts; drawer = s.drawer } };
+
+    ghost invariant = { λ s. IsThere s.seat };
 }
 
 /// What the words end with.
@@ -82,11 +85,7 @@ impl Words {
                     replays,
                     draws,
                 },
-                Share {
-                    seat,
-                    parts,
-                    drawer,
-                },
+                share_of(seat, parts, drawer),
             )),
             // A desk of shards has to be closed.
             Err(_table) => {
@@ -104,26 +103,15 @@ impl Words {
         ensures of { IsShareOf self.now result.0 × IsShareOf self.now result.1 }
         ensures cut { IsCutOff share result.0 result.1 }
     {
-        let Share {
-            seat,
-            parts,
-            drawer,
-        } = share;
+        let (seat, parts, drawer) = share.into_seats();
         let (seat, one) = self.lock.split(seat);
         let (seat, two) = self.lock.split(seat);
         let (parts, others) = self.replays.split(parts, none);
         let (drawer, other) = self.draws.split(drawer);
-        let left = Share {
-            seat,
-            parts,
-            drawer,
-        };
-        let right = Share {
-            seat: self.lock.join(one, two),
-            parts: others,
-            drawer: other,
-        };
-        (left, right)
+        (
+            share_of(seat, parts, drawer),
+            share_of(self.lock.join(one, two), others, other),
+        )
     }
 
     /// Puts two shares together that hold and owe nothing.
@@ -135,60 +123,37 @@ impl Words {
         ensures free { IsFree result }
         ensures both { IsBoth left right result }
     {
-        let Share {
-            seat,
-            parts,
-            drawer,
-        } = left;
-        let Share {
-            seat: other,
-            parts: others,
-            drawer: second,
-        } = right;
-        Share {
-            seat: self.lock.join(seat, other),
-            parts: self.replays.join(parts, others),
-            drawer: self.draws.join(drawer, second),
-        }
+        let (seat, parts, drawer) = left.into_seats();
+        let (other, others, second) = right.into_seats();
+        share_of(
+            self.lock.join(seat, other),
+            self.replays.join(parts, others),
+            self.draws.join(drawer, second),
+        )
     }
 
     /// Hands each share what the other has seen of the table's history: then both have seen the longer of the two. It waits
     /// for nobody.
-    pub fn meet(&self, one: Share, other: Share) -> (Share, Share)
-        requires one { IsShareOf self.now one }
-        requires other { IsShareOf self.now other }
-        requires shares { (2 ≤ one.sight.share) × (2 ≤ other.sight.share) }
-        requires once { (c : ℕ) → count_of c one.sight.holds ≤ 1 }
-        requires also { (c : ℕ) → count_of c other.sight.holds ≤ 1 }
-        ensures of { IsShareOf self.now result.0 × IsShareOf self.now result.1 }
-        ensures one { OnlySaw one result.0 }
-        ensures other { OnlySaw other result.1 }
-        ensures same { result.0.sight.seen ≡ result.1.sight.seen }
+    pub fn meet(&self, one: &mut Share, other: &mut Share)
+        requires one { IsShareOf self.now one.old }
+        requires other { IsShareOf self.now other.old }
+        requires shares { (2 ≤ one.old.sight.share) × (2 ≤ other.old.sight.share) }
+        requires once { (c : ℕ) → count_of c one.old.sight.holds ≤ 1 }
+        requires also { (c : ℕ) → count_of c other.old.sight.holds ≤ 1 }
+        ensures of { IsShareOf self.now one.new × IsShareOf self.now other.new }
+        ensures one { OnlySaw one.old one.new }
+        ensures other { OnlySaw other.old other.new }
+        ensures same { one.new.sight.seen ≡ other.new.sight.seen }
     {
-        let Share {
-            seat,
-            parts,
-            drawer,
-        } = one;
-        let Share {
-            seat: second,
-            parts: others,
-            drawer: another,
-        } = other;
-        let (seat, token) = self.lock.split(seat);
-        let second = self.lock.join(second, token);
-        let (second, token) = self.lock.split(second);
-        let one = Share {
-            seat: self.lock.join(seat, token),
-            parts,
-            drawer,
+        let Some(first) = one.seat.take() else {
+            unreachable!()
         };
-        let other = Share {
-            seat: second,
-            parts: others,
-            drawer: another,
+        let Some(second) = other.seat.take() else {
+            unreachable!()
         };
-        (one, other)
+        let (first, second) = show_both(&self.lock, first, second);
+        one.seat = Some(first);
+        other.seat = Some(second);
     }
 
     /// Ends the words, with the one share that is left, and gives the histories.
@@ -203,11 +168,7 @@ impl Words {
             replays,
             draws,
         } = self;
-        let Share {
-            seat,
-            parts,
-            drawer,
-        } = share;
+        let (seat, parts, drawer) = share.into_seats();
         let _drawer = ended(draws, drawer);
         let shards = replays.close(parts);
         let (journal, notes) = lock.close(seat).finish();
@@ -217,4 +178,55 @@ impl Words {
             shards,
         }
     }
+}
+
+/// A share of its three seats.
+fn share_of(seat: LockSeat<Table>, parts: DeskSeat, drawer: DrawSeat) -> Share
+    ensures { result ≡ record { name = Some (name_of_seat seat); sight = sight_of seat; parts = parts; drawer = drawer } }
+{
+    Share {
+        seat: Some(seat),
+        parts,
+        drawer,
+    }
+}
+
+impl Share {
+    /// Its three seats.
+    fn into_seats(self) -> (LockSeat<Table>, DeskSeat, DrawSeat)
+        ensures name { Some (name_of_seat result.0) ≡ self.name }
+        ensures sight { sight_of result.0 ≡ self.sight }
+        ensures parts { result.1 ≡ self.parts }
+        ensures drawer { result.2 ≡ self.drawer }
+    {
+        let Share {
+            seat,
+            parts,
+            drawer,
+        } = self;
+        let Some(seat) = seat else { unreachable!() };
+        (seat, parts, drawer)
+    }
+}
+
+/// Hands each seat what the other has seen, by a share that goes to and fro.
+fn show_both(
+    lock: &TicketLock<Table>,
+    one: LockSeat<Table>,
+    other: LockSeat<Table>,
+) -> (LockSeat<Table>, LockSeat<Table>)
+    requires of { IsSeatOf lock.now one × IsSeatOf lock.now other }
+    requires share { (2 ≤ (sight_of one).share) × (2 ≤ (sight_of other).share) }
+    requires once { (c : ℕ) → count_of c (holds_of one) ≤ 1 }
+    requires also { (c : ℕ) → count_of c (holds_of other) ≤ 1 }
+    ensures of { IsSeatOf lock.entry.now result.0 × IsSeatOf lock.entry.now result.1 }
+    ensures one { HasSeen (sight_of one) (sight_of result.0) }
+    ensures other { HasSeen (sight_of other) (sight_of result.1) }
+    ensures same { seen_of result.0 ≡ seen_of result.1 }
+{
+    let (one, token) = lock.split(one);
+    let other = lock.join(other, token);
+    let (other, token) = lock.split(other);
+    let one = lock.join(one, token);
+    (one, other)
 }
