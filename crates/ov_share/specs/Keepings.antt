@@ -1,6 +1,7 @@
 -- What a lane's share says of the lane's lines: those that are answered, and the one under way.
-use Rattle.std.specs.Prelude.{◌≡◌, ℕ, ◌<◌, List, [], ◌∷◌, ◌++◌, map}
+use Rattle.std.specs.Prelude.{◌≡◌, ℕ, ◌<◌, ◌≤◌, List, [], ◌∷◌, ◌++◌, length, map}
 use Rattle.std.specs.List.{AllByRecursion, AllPairs, range_with_len}
+use Rattle.ov_base.specs.Sums.{count_of}
 use Rattle.ov_base.specs.declared.address.Addr.{Addr}
 use Rattle.ov_model.specs.declared.answer.Answer.{Answer}
 use Rattle.ov_model.specs.declared.line.Line.{Line}
@@ -9,8 +10,8 @@ use Rattle.ov_model.specs.Events.{Event, DrawnId, steps_in, judgements_in, draws
 use Rattle.ov_model.specs.Keys.{sealed_in, ids_under}
 use Rattle.ov_model.specs.Legal.{LinesRise}
 use Rattle.ov_model.specs.Limits.{shard_count}
-use Rattle.ov_model.specs.Own.{LaneStands}
-use Rattle.ov_replay.specs.Desk.{part_at}
+use Rattle.ov_model.specs.Own.{LaneStands, RiseFrom, positions}
+use Rattle.ov_replay.specs.Desk.{Part, part_at}
 use Rattle.ov_share.specs.Shares.{Sharing}
 use Rattle.ov_share.specs.Makings.{SpendKnown}
 
@@ -32,3 +33,19 @@ pub record LaneKept (via : Addr → Addr) (lane : ℕ) (lines : List Line) (answ
   pub drawn : s.drawer.drawn ≡ map drawn_as (sealed_in answers ++ draws_in events)
   pub rises : (key : ℕ) → AllPairs (λ m n. m < n) (ids_under key (sealed_in answers ++ draws_in events))
   pub spent : AllByRecursion (λ e. SpendKnown s.drawer.spent e.1.call.act) s.sight.own
+
+-- A lane's own replay steps in a shard name the lane, and their positions rise below the length of what it has seen of it.
+pub record IsOwnPart (lane : ℕ) (p : Part) : Type 0 where
+  pub rise : RiseFrom 0 (positions p.own)
+  pub below : AllByRecursion (λ e. e.0 < length p.seen) p.own
+  pub placed : AllByRecursion (λ e. e.1.place.lane ≡ lane) p.own
+
+-- A lane's own entries name the lane, and their positions rise below the length of what it has seen; so do its replay steps.
+-- It has at least two shares of the lock, one to be handed on, and holds a cell at most once.
+pub record IsOrderly (lane : ℕ) (s : Sharing) : Type 0 where
+  pub share : 2 ≤ s.sight.share
+  pub once : (c : ℕ) → count_of c s.sight.holds ≤ 1
+  pub rise : RiseFrom 0 (positions s.sight.own)
+  pub below : AllByRecursion (λ e. e.0 < length s.sight.seen) s.sight.own
+  pub placed : AllByRecursion (λ e. e.1.place.lane ≡ lane) s.sight.own
+  pub parts : (i : ℕ) → i < shard_count → IsOwnPart lane (part_at s.parts i)
