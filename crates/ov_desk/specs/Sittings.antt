@@ -1,5 +1,5 @@
 -- A lane's desk over the shared words: what it shows to the line that stands at it, and what each event makes of it.
-use Rattle.std.specs.Prelude.{◌≡◌, ⊤, ⊥, ℕ, List, [], ◌∷◌, refl}
+use Rattle.std.specs.Prelude.{◌≡◌, ⊤, ℕ, List, [], ◌∷◌, refl}
 use Rattle.std.specs.List.{AllByRecursion}
 use Rattle.ov_model.specs.declared.line.Route.{Route}
 use Rattle.ov_model.specs.declared.hold.Owed.{Owed}

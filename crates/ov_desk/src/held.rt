@@ -1,6 +1,6 @@
 //! The cells of what a line holds.
 
-ghost use Rattle.std.specs.Prelude.{◌≡◌};
+ghost use Rattle.std.specs.Prelude.{◌≡◌, ◌<◌};
 ghost use Rattle.ov_ticket.specs.Within.{cell_of};
 
 use ov_model::Owed;
