@@ -70,12 +70,12 @@ got_cells (act.RxLook id key_id from) r = found_cells r
 got_cells (act.KeepLook peer) r = found_cells r
 got_cells _ r = []
 
--- A peer that a reply says is held may be asked for later.
+-- A peer that a reply says is held may be asked for later, and its key has a counter.
 abbrev pub FoundLow : Reply → Type 0
-FoundLow (reply.Hold h) = h.peer < 4096
+FoundLow (reply.Hold h) = (h.peer < 4096) × (h.key < 65536)
 FoundLow _ = ⊤
 
--- The peer that a look-up found.
+-- The peer and the key that a look-up found.
 abbrev pub GotLow : Act → Reply → Type 0
 GotLow (act.TxLook a) r = FoundLow r
 GotLow (act.RxLook id key_id from) r = FoundLow r
