@@ -4,3 +4,9 @@ pub mod Standing
 pub mod Making
 -- What the steps of the table answer.
 pub mod Replies
+-- What each call of the desk but a step of the table leaves: the event, as its trait says, and all that is kept true.
+pub mod Leaving
+-- What a step of the table leaves: any that a line may ask for.
+pub mod Stepping
+-- A line that is given up: what it held and owed is let go, one after the other.
+pub mod Ending

@@ -7,7 +7,7 @@ ghost use Rattle.ov_desk.specs.Sittings.{shown_of, Happened, GivesBack, WasRelea
 ghost use Rattle.ov_share.specs.Shares.{IsShareOf, IsFree};
 ghost use Rattle.ov_ticket.specs.Within.{HasRoom};
 
-use crate::held::cell;
+use crate::held::{cell, owe_if};
 use ov_base::{Addr, Memory};
 use ov_hold::Held;
 use ov_keys::KeyPair;
@@ -78,7 +78,8 @@ impl<'a, R: Wait> LaneDesk<'a, R> {
     pub fn end_line(&mut self)
         requires hold { self.old.hold ≡ NoHold }
         requires owing { self.old.owing ≡ [] }
-        ensures { self.new ≡ record self.old { events = [] } }
+        ensures rests { self.new ≡ record self.old { events = [] } }
+        ensures free { IsFree self.new.share }
     {
         self.past = Past::new();
     }
@@ -89,18 +90,18 @@ impl<'a, R: Wait> LaneDesk<'a, R> {
         ensures { HasGivenUp place at self.old self.new }
     {
         self.let_all_go();
-        let count = self.owed.len();
+        let count = self.owed_count();
         for _done in 0..count {
             self.release_first(place, at);
         }
-        self.past = Past::new();
+        self.end_line();
     }
 
     /// The share, and the room for the releases.
     pub fn into_parts(self) -> (Share, VecDeque<Owed>)
         requires hold { self.hold ≡ NoHold }
         requires owing { self.owing ≡ [] }
-        ensures share { result.0 ≡ self.share }
+        ensures share { result.0 ≡ self.entry.share }
         ensures free { IsFree result.0 }
         ensures room { HasRoom result.1 }
     {
@@ -190,14 +191,12 @@ impl<'a, R: Wait> LaneDesk<'a, R> {
         requires { GivesBack self.old.hold owed }
         ensures { Did shown_of Happened self.old (gave owed result) self.new }
     {
+        self.hold = self.hold.without(owed);
         let cell = cell(owed);
         let given = self
             .words
             .give_back(&mut self.share, &mut self.held, cell);
-        if let Given::Last = given {
-            self.owed.push_back_reserved(owed);
-        }
-        self.hold = self.hold.without(owed);
+        owe_if(&mut self.owed, given, owed);
         self.past.push(Happening::Gave(owed, given));
         given
     }
@@ -216,6 +215,13 @@ impl<'a, R: Wait> LaneDesk<'a, R> {
                 self.let_go(Owed::Peer(view.peer));
             }
         }
+    }
+
+    /// How many releases are owed.
+    fn owed_count(&self) -> usize
+        ensures { result ≡ length self.now.owing }
+    {
+        self.owed.len()
     }
 
     /// Makes the release that is owed first.

@@ -6,8 +6,8 @@ use Rattle.ov_ticket.proofs.Releasing.{popped}
 use Rattle.ov_ticket.proofs.Telling.{IsLeft, releasing_first, rest_fits, release_told}
 use Rattle.ov_ticket.proofs.ticket.release_once.Goals as goal
 
-pub release_one-requires : goal.release_one-requires
-release_one-requires g c =
+pub release_one-event-requires : goal.release_one-event-requires
+release_one-event-requires g c =
     let rest : List Owed = c.pop_front.new.self.items in
     let first : c.args.owed.now.items ≡ c.in-Some.first ∷ rest = popped c.args.owed.now.items rest c.pop_front.result c.in-Some.first c.pop_front.ensures.items c.in-Some.is in
     (rest, releasing_first (sight_of c.args.seat) c.enter-inside.result c.args.owed.now c.in-Some.first rest c.enter-inside.ensures.entered c.requires.owed first)

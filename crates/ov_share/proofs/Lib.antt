@@ -1,0 +1,4 @@
+-- Two histories of which each begins the other are one.
+pub mod Fronts
+-- At the end every peer and key that is gone was let go.
+pub mod Ending
