@@ -1,2 +1,4 @@
 -- The turns of a line, one after the other.
 pub mod Turns
+-- What each event of a lane's line keeps true of the lane's own steps, and the line's answer.
+pub mod Keeping
