@@ -126,10 +126,6 @@ replays_same : (s t : Sharing) → t.parts ≡ s.parts → replays_of t ≡ repl
 replays_same s t same = ap (λ ps. map (λ i. map (λ e. e.1) (part_at ps i).own) (range_with_len 0 shard_count)) same
 
 module _ {via : Addr → Addr} {lane : ℕ} {lines : List Line} {answers : List Answer} where
-  -- All that the lane knows of its own steps, by what it has seen and made.
-  Standing : List Entry → List (ℕ × Entry) → List (List ReplayEntry) → List Step → List Judgement → Type 0
-  Standing seen own shards now judgements = LaneStands via lane seen own shards lines answers now judgements
-
   standing_as : (seen seen' : List Entry) (own own' : List (ℕ × Entry)) (shards shards' : List (List ReplayEntry)) (now now' : List Step) (js js' : List Judgement) → seen' ≡ seen → own' ≡ own → shards' ≡ shards → now' ≡ now → js' ≡ js
       → LaneStands via lane seen own shards lines answers now js → LaneStands via lane seen' own' shards' lines answers now' js'
   standing_as seen seen' own own' shards shards' now now' js js' a b c d e stands = rw (a, b, c, d, e) stands
@@ -185,7 +181,8 @@ module _ {via : Addr → Addr} {lane : ℕ} {lines : List Line} {answers : List 
       let g : ℕ → List ReplayEntry = λ i. map (λ e. e.1) (part_at t.parts i).own in
       let more : g k ≡ f k ++ r ∷ [] = ap (λ (p : Part). map (λ e. e.1) p.own) here.new_is ∙ map-append (λ (e : ℕ × ReplayEntry). e.1) (part_at s.parts k).own ((length here.before, r) ∷ []) in
       let below : k < 8 = omega arith in
-      let replays : replays_of t ≡ judged_in (replays_of s) k r = map_judged f g r 0 shard_count k (λ i other. ap (λ (p : Part). map (λ e. e.1) p.own) (made.stepped.others i other)) more below in
+      let start : 0 + k ≡ k = omega arith in
+      let replays : replays_of t ≡ judged_in (replays_of s) k r = map_judged f g r 0 shard_count k (λ i other. ap (λ (p : Part). map (λ e. e.1) p.own) (made.stepped.others i (λ same. other (same ∙ sym start)))) (subst (λ n. g n ≡ f n ++ r ∷ []) (sym start) more) below in
       let seen : t.sight.seen ≡ s.sight.seen = ap (λ (x : Sharing). x.sight.seen) made.same in
       let own : t.sight.own ≡ s.sight.own = ap (λ (x : Sharing). x.sight.own) made.same in
       let its : judgement_of r ≡ j = ap (λ (v : Verdict). record { place = j.place; key = j.key; id = j.id; at = j.at; verdict = v }) (sym here.verdict_is) in
