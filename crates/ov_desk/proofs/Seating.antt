@@ -1,6 +1,6 @@
 -- What the fields of the desk keep true, and what its callers are told, after each call.
 use Rattle.std.proofs.Common.{ℕ, ◌≡◌, ◌<◌, ◌≤◌, List, [], ◌∷◌, ◌++◌, length, refl, sym, ◌∙◌, ap, subst, arith}
-use Rattle.std.specs.Prelude.{⊤, Option}
+use Rattle.std.specs.Prelude.{⊤, Option, map}
 use Rattle.std.specs.VecDeque.{deque_capacity}
 use Rattle.std.specs.declared.collections.VecDeque.{VecDeque}
 use Rattle.std.specs.declared.alloc.Global.{Global}
@@ -19,18 +19,18 @@ use Rattle.ov_model.specs.Events.{Event, Drew}
 use Rattle.ov_model.specs.Next.{stand_of}
 use Rattle.ov_model.specs.Runs.{last_table}
 use Rattle.ov_model.specs.Tables.{Material}
-use Rattle.ov_path.specs.Desks.{Holding, HoldsKey, MayCall, IsLooked, Did, Called, SameLine, judged_at, owed_if, held_after}
+use Rattle.ov_path.specs.Desks.{Holding, NoHold, HoldsKey, MayCall, IsLooked, Did, Called, SameLine, judged_at, owed_if, held_after}
 use Rattle.ov_past.specs.Pasts.{gave}
 use Rattle.ov_past.specs.Holds.{hold_without}
 use Rattle.ov_replay.specs.Desk.{HasStepped, HasNotStepped}
-use Rattle.ov_share.specs.Shares.{Common, Sharing, IsShareOf, HasDrawn}
+use Rattle.ov_share.specs.Shares.{Common, Sharing, IsShareOf, IsFree, HasDrawn}
 use Rattle.ov_ticket.specs.Asks.{OwedFits, MayAsk, found_pair}
 use Rattle.ov_ticket.specs.Tickets.{HasSeen, StepAt, ReleasedAt}
 use Rattle.ov_ticket.specs.Within.{cell_of}
 use Rattle.ov_turn.specs.Lists.{without}
 use Rattle.ov_turn.specs.Seats.{Sight}
 use Rattle.ov_desk.specs.Sittings.{Sitting, shown_of, Happened, Stayed, GivesBack, WasReleased}
-use Rattle.ov_desk.specs.Kept.{IsKept, IsSeated, sitting}
+use Rattle.ov_desk.specs.Kept.{IsKept, IsSeated, IsDry, cells_of_hold, sitting}
 use Rattle.ov_desk.proofs.Leaving.{EventDone, Kept, CanGive, ReleaseDone, given_share, given_back, drawn_sight, draw_done, key_low, replay_done, replay_stayed, table_stayed, can_give, give_done, give_fits, release_done}
 use Rattle.ov_desk.proofs.Stepping.{CallDone, stepped_desk, call_done, may_ask}
 
@@ -52,6 +52,29 @@ module _ {w : Common} {routes : List Route} {share : Sharing} {past : List Event
 
   pub gives_seated : (o : Owed) → GivesBack d.hold o → CanGive (sitting w routes share past hold owed.items) held o
   gives_seated o names = can_give (sitting w routes share past hold owed.items) held pair o seated.kept (subst (λ (x : Sitting). GivesBack x.hold o) (sym is) names)
+
+  -- The line is over.
+
+  pub free_seated : d.hold ≡ NoHold → d.owing ≡ [] → IsFree share
+  free_seated free none = record {
+    holds = seated.kept.holds ∙ ap cells_of_hold (ap (λ (x : Sitting). x.hold) is ∙ free);
+    owes = seated.fits.owes_are ∙ ap (map cell_of) (ap (λ (x : Sitting). x.owing) is ∙ none);
+  }
+
+  pub over_seated : (later : List Event) → d.hold ≡ NoHold → later ≡ [] → IsSeated w routes share later hold held pair owed
+  over_seated later free later_is = record {
+    kept = subst (λ es. IsKept (sitting w routes share es hold owed.items) held pair) (sym later_is) (record {
+      of = seated.kept.of;
+      held_is = seated.kept.held_is;
+      holds = seated.kept.holds;
+      range = seated.kept.range;
+      pair_is = seated.kept.pair_is;
+      dry = subst (λ h. IsDry share.drawer.spent h (stand_of [])) (sym (ap (λ (x : Sitting). x.hold) is ∙ free)) tt;
+      unjudged = λ early. refl;
+      few = seated.kept.few;
+    });
+    fits = seated.fits;
+  }
 
   -- A draw.
 

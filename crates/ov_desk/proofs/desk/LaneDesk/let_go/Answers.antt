@@ -14,7 +14,7 @@ give_back-given-requires g c =
     let can = gives_seated c.self.invariant c.self.view_is c.args.owed c.requires in
     record {
       of = c.self.invariant.kept.of;
-      has = subst (λ x. has x c.self.inside.held ≡ 1) (sym c.cell-cell.ensures) can.held;
+      has = subst (λ x. has x c.self.inside.held ≡ 1) (sym c.cell-cell.ensures) can.listed;
       holds = subst (λ x. 0 < count_of x c.self.inside.share.sight.holds) (sym c.cell-cell.ensures) can.holds;
     }
 
@@ -29,9 +29,9 @@ owe_if-requires g c =
 pub invariant_of-self : goal.invariant_of-self
 invariant_of-self g c =
     gave_seated c.self.invariant c.self.view_is c.args.owed c.cell-cell.result c.give_back-given.result c.give_back-given.new.share c.push.new.self _ c.give_back-given.new.held c.owe_if.new.listed
-    c.requires c.cell-cell.ensures c.give_back-given.ensures.of c.give_back-given.ensures.same c.give_back-given.ensures.owes c.give_back-given.ensures.held c.without.ensures c.push.ensures c.owe_if.ensures.listed c.owe_if.ensures.capacity
+    c.requires c.cell-cell.ensures c.give_back-given.ensures.of c.give_back-given.ensures.same c.give_back-given.ensures.owes c.give_back-given.ensures.held c.without-self-inside.ensures c.push.ensures c.owe_if.ensures.listed c.owe_if.ensures.capacity
 
 pub returns : goal.returns
 returns g c =
     gave_told c.self.invariant c.self.view_is c.args.owed c.cell-cell.result c.give_back-given.result c.give_back-given.new.share c.push.new.self _ c.give_back-given.new.held c.owe_if.new.listed
-    c.requires c.cell-cell.ensures c.give_back-given.ensures.of c.give_back-given.ensures.same c.give_back-given.ensures.held c.without.ensures c.push.ensures c.owe_if.ensures.listed
+    c.requires c.cell-cell.ensures c.give_back-given.ensures.of c.give_back-given.ensures.same c.give_back-given.ensures.held c.without-self-inside.ensures c.push.ensures c.owe_if.ensures.listed
