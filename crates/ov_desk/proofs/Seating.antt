@@ -1,6 +1,6 @@
 -- What the fields of the desk keep true, and what its callers are told, after each call.
 use Rattle.std.proofs.Common.{ℕ, ◌≡◌, ◌<◌, ◌≤◌, List, [], ◌∷◌, ◌++◌, length, refl, sym, ◌∙◌, ap, subst, arith}
-use Rattle.std.specs.Prelude.{⊤, Option, map}
+use Rattle.std.specs.Prelude.{⊤, Option, Result, Ok, Err, OnErr, map}
 use Rattle.std.specs.VecDeque.{deque_capacity}
 use Rattle.std.specs.declared.collections.VecDeque.{VecDeque}
 use Rattle.std.specs.declared.alloc.Global.{Global}
@@ -33,6 +33,10 @@ use Rattle.ov_desk.specs.Sittings.{Sitting, shown_of, Happened, Stayed, GivesBac
 use Rattle.ov_desk.specs.Kept.{IsKept, IsSeated, IsDry, cells_of_hold, sitting}
 use Rattle.ov_desk.proofs.Leaving.{EventDone, Kept, CanGive, ReleaseDone, given_share, given_back, drawn_sight, draw_done, key_low, replay_done, replay_stayed, table_stayed, can_give, give_done, give_fits, release_done}
 use Rattle.ov_desk.proofs.Stepping.{CallDone, stepped_desk, call_done, may_ask}
+
+pub on_err : {T E P : Type 0} (r : Result T E) → P → OnErr r P
+on_err (Ok x) p = tt
+on_err (Err e) p = p
 
 did_at : {was d n m : Sitting} {e : Event} → was ≡ d → m ≡ n → Did shown_of Happened was e n → Did shown_of Happened d e m
 did_at {was} {d} {n} {m} {e} same is did = subst (λ x. Did shown_of Happened x e m) same (subst (λ x. Did shown_of Happened was e x) (sym is) did)
