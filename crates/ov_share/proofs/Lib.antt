@@ -2,3 +2,5 @@
 pub mod Fronts
 -- At the end every peer and key that is gone was let go.
 pub mod Ending
+-- What a line's events add to the lane's own entries.
+pub mod Adding
