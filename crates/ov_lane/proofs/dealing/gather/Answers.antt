@@ -7,7 +7,7 @@ use Rattle.ov_share.specs.Shares.{IsShareOf}
 use Rattle.ov_share.specs.Passings.{Passing}
 use Rattle.ov_lane.specs.Passes.{IsFree}
 use Rattle.ov_lane.proofs.Taking.{taken_one, taken_more}
-use Rattle.ov_lane.proofs.Dealing.{all_within}
+use Rattle.ov_lane.proofs.Fresh.{all_within}
 use Rattle.ov_lane.proofs.dealing.gather.Goals as goal
 
 pub loop-taken-init : goal.loop-taken-init
