@@ -244,7 +244,7 @@ may_give (Both h) (owed.Peer p) g names range = absurd names
 -- What the code asks before a give-back.
 pub record CanGive (d : Sitting) (held : List ℕ) (o : Owed) : Type 0 where
   pub cell : cell_of o < 69632
-  pub held : has (cell_of o) held ≡ 1
+  pub listed : has (cell_of o) held ≡ 1
   pub holds : 0 < count_of (cell_of o) d.share.sight.holds
   pub room : length d.owing ≤ 1
 
@@ -254,7 +254,7 @@ can_give d held pair o kept names =
     let has_it : has (cell_of o) d.share.sight.holds ≡ 1 = ap (has (cell_of o)) kept.holds ∙ may.held in
     record {
       cell = may.cell;
-      held = ap (has (cell_of o)) kept.held_is ∙ has_it;
+      listed = ap (has (cell_of o)) kept.held_is ∙ has_it;
       holds = counted_has (cell_of o) d.share.sight.holds (omega (arith, has_it));
       room = may.room d.owing kept.few;
     }

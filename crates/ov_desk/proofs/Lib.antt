@@ -10,3 +10,5 @@ pub mod Leaving
 pub mod Stepping
 -- A line that is given up: what it held and owed is let go, one after the other.
 pub mod Ending
+-- What the fields of the desk keep true, and what its callers are told, after each call.
+pub mod Seating

@@ -3,6 +3,7 @@
 ghost use Rattle.std.specs.Prelude.{◌≡◌, ◌<◌, [], length};
 ghost use Rattle.ov_path.specs.Desks.{NoHold, Did};
 ghost use Rattle.ov_past.specs.Pasts.{gave};
+ghost use Rattle.ov_past.specs.Holds.{holding};
 ghost use Rattle.ov_desk.specs.Sittings.{shown_of, Happened, GivesBack, WasReleased, HasLetGo, HasGivenUp, at_rest};
 ghost use Rattle.ov_share.specs.Shares.{IsShareOf, IsFree};
 ghost use Rattle.ov_ticket.specs.Within.{HasRoom};
@@ -205,7 +206,7 @@ impl<'a, R: Wait> LaneDesk<'a, R> {
     fn let_all_go(&mut self)
         ensures { HasLetGo self.old self.new }
     {
-        match self.hold {
+        match self.holds() {
             Hold::Nothing => {}
             Hold::Both(view) => {
                 self.let_go(Owed::Key(view.key));
@@ -215,6 +216,13 @@ impl<'a, R: Wait> LaneDesk<'a, R> {
                 self.let_go(Owed::Peer(view.peer));
             }
         }
+    }
+
+    /// What the line holds.
+    fn holds(&self) -> Hold
+        ensures { holding result ≡ self.now.hold }
+    {
+        self.hold
     }
 
     /// How many releases are owed.

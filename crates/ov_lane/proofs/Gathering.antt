@@ -27,10 +27,10 @@ use Rattle.ov_model.proofs.Stands.{mine_whole}
 use Rattle.ov_model.proofs.Freed.{all_released, act_balance}
 use Rattle.ov_model.proofs.LifetimeLaw.{peers_stay_released, keys_stay_released}
 use Rattle.ov_replay.specs.Desk.{part_at}
-use Rattle.ov_share.specs.Shares.{Common, Sharing, IsEnd}
+use Rattle.ov_share.specs.Shares.{Common, Sharing, IsWholeShare, IsEnd}
 use Rattle.ov_share.specs.Keepings.{IsOrderly}
 use Rattle.ov_share.specs.Passings.{Passing, IsPart, DrawnOnce, OneHistory}
-use Rattle.ov_lane.specs.Passes.{EachLeavesOnly, LastReleases}
+use Rattle.ov_lane.specs.Passes.{Shared, AreAllPasses, EachLeavesOnly, LastReleases}
 use Rattle.ov_lane.specs.Inner.{HasTaken, entry_lane, own_entries, judged_lane, own_judged}
 use Rattle.ov_lane.proofs.Taking.{by, all_by, prefix_on}
 
@@ -128,6 +128,14 @@ one_history w passes s journal notes shards has end =
         spent = all_weaker (λ p. (k : ℕ) → Contains p.share.drawer.spent k → Contains s.drawer.spent k) (λ p. Contains p.share.drawer.spent key → ended.0 ≡ 4294967296) (λ p kept found. ended.3 (kept key found)) passes has.spent;
       }
     )
+
+-- The shares of all passes are all there are.
+pub all_passes_some : (o : Shared) (passes : List Passing) → AreAllPasses o passes → 0 < length passes
+all_passes_some o [] all = absurd (let none = all.table in omega arith)
+all_passes_some o (p ∷ passes) all = omega arith
+
+pub whole_share : (o : Shared) (passes : List Passing) (s : Sharing) → AreAllPasses o passes → HasTaken o.words passes s → IsWholeShare s
+whole_share o passes s all has = record { table = has.table ∙ all.table; parts = λ i lt. has.parts i lt ∙ all.parts i lt; counters = has.counters ∙ all.counters }
 
 -- ---- the last releases
 

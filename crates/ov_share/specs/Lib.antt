@@ -3,3 +3,4 @@ pub mod Makings
 pub mod Keepings
 pub mod Passings
 pub mod Inner
+pub mod Added
