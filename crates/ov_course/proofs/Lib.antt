@@ -2,3 +2,5 @@
 pub mod Turns
 -- What each event of a lane's line keeps true of the lane's own steps, and the line's answer.
 pub mod Keeping
+-- What the events of one line add to a lane's own entries, and what they leave as it was.
+pub mod Moving
