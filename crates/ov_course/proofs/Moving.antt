@@ -25,6 +25,7 @@ use Rattle.ov_model.proofs.Stands.{length-steps_after}
 use Rattle.ov_path.specs.Walks.{IsOwn}
 use Rattle.ov_replay.specs.Desk.{Part, part_at}
 use Rattle.ov_share.specs.Added.{HasAdded}
+use Rattle.ov_share.proofs.Adding.{front_length, added_none, added_then, event_adds, saw_adds}
 use Rattle.ov_share.specs.Shares.{Sharing, IsFree}
 use Rattle.ov_share.specs.Makings.{HasMade, HasJudged, HasGiven, Makes, SawMore}
 use Rattle.ov_share.specs.Keepings.{IsOwnPart, IsOrderly}
@@ -39,15 +40,6 @@ rise_lower b c [] least rise = tt
 rise_lower b c (p ∷ ps) least rise = (let above : c ≤ p = rise.0 in omega arith, rise.1)
 
 module _ {X : Type 0} where
-  prefix_on : (xs ys zs : List X) → IsPrefix xs ys → IsPrefix ys zs → IsPrefix xs zs
-  prefix_on xs ys zs first then = (first.0 ++ then.0, sym (append_assoc xs first.0 then.0) ∙ ap (λ l. l ++ then.0) first.1 ∙ then.1)
-
-  prefix_length : (xs ys : List X) → IsPrefix xs ys → length xs ≤ length ys
-  prefix_length xs ys front =
-      let both : length (xs ++ front.0) ≡ length xs + length front.0 = length-append xs front.0 in
-      let whole : length (xs ++ front.0) ≡ length ys = ap length front.1 in
-      omega arith
-
   rise_append : (b c : ℕ) (own more : List (ℕ × X)) → RiseFrom b (positions own) → AllByRecursion (λ e. e.0 < c) own → b ≤ c → RiseFrom c (positions more) → RiseFrom b (positions (own ++ more))
   rise_append b c [] more rise below least later = rise_lower b c (positions more) least later
   rise_append b c (e ∷ own) more rise below least later = (rise.0, rise_append (suc e.0) c own more rise.1 below.1 below.0 later)
@@ -81,25 +73,16 @@ order_free lane s order free = record {
 
 -- ---- what one event does, and several
 
--- It adds entries of this place alone, and leaves the shares and the order as they were.
+-- It leaves the shares and the order as they were.
+record IsSteady (lane : ℕ) (old new : Sharing) : Type 0 where
+  shares : HasSameShares old new
+  order : InOrder lane old → InOrder lane new
+
+-- And it adds entries of this place alone.
 pub record Moved (place : Place) (old new : Sharing) : Type 0 where
   pub shares : HasSameShares old new
-  pub added : HasAdded (λ p. p ≡ place) old new
   pub order : InOrder place.lane old → InOrder place.lane new
-
--- Entries of this place stand behind others.
-pub added_on : (kind : Place → Type 0) (a b c : Sharing) → HasAdded kind a b → HasAdded kind b c → HasAdded kind a c
-added_on kind a b c first then =
-    let low : length a.sight.seen ≤ length b.sight.seen = prefix_length a.sight.seen b.sight.seen first.front in
-    let high : length b.sight.seen ≤ length c.sight.seen = prefix_length b.sight.seen c.sight.seen then.front in
-    record {
-      more = first.more ++ then.more;
-      own = then.own ∙ ap (λ own. own ++ then.more) first.own ∙ append_assoc a.sight.own first.more then.more;
-      front = prefix_on a.sight.seen b.sight.seen c.sight.seen first.front then.front;
-      late = all_append (λ e. length a.sight.seen ≤ e.0) first.more then.more first.late (all_weaker (λ e. length b.sight.seen ≤ e.0) (λ e. length a.sight.seen ≤ e.0) (λ e after. let above : length b.sight.seen ≤ e.0 = after in omega arith) then.more then.late);
-      below = all_append (λ e. e.0 < length c.sight.seen) first.more then.more (below_more (length b.sight.seen) (length c.sight.seen) first.more high first.below) then.below;
-      placed = all_append (λ e. kind e.1.place) first.more then.more first.placed then.placed;
-    }
+  pub added : HasAdded (λ p. p ≡ place) old new
 
 pub shares_on : (a b c : Sharing) → HasSameShares a b → HasSameShares b c → HasSameShares a c
 shares_on a b c first then = record {
@@ -114,35 +97,29 @@ shares_on a b c first then = record {
 pub moved_on : (place : Place) (a b c : Sharing) → Moved place a b → Moved place b c → Moved place a c
 moved_on place a b c first then = record {
   shares = shares_on a b c first.shares then.shares;
-  added = added_on (λ p. p ≡ place) a b c first.added then.added;
+  added = added_then a b c first.added then.added;
   order = λ order. then.order (first.order order);
 }
-
-added_none : (kind : Place → Type 0) (old new : Sharing) → IsPrefix old.sight.seen new.sight.seen → new.sight.own ≡ old.sight.own → HasAdded kind old new
-added_none kind old new front own = record { more = []; own = own ∙ sym (append-nil old.sight.own); front = front; late = tt; below = tt; placed = tt }
-
-pub added_itself : (kind : Place → Type 0) (s : Sharing) → HasAdded kind s s
-added_itself kind s = added_none kind s s (prefix_self s.sight.seen) refl
 
 pub shares_itself : (s : Sharing) → HasSameShares s s
 shares_itself s = record { name = refl; table = refl; names = λ i. refl; parts = λ i. refl; counters = refl; drawer = refl }
 
 pub moved_itself : (place : Place) (s : Sharing) → Moved place s s
-moved_itself place s = record { shares = shares_itself s; added = added_itself (λ p. p ≡ place) s; order = λ order. order }
+moved_itself place s = record { shares = shares_itself s; added = added_none (λ p. p ≡ place) s s (prefix_self s.sight.seen) refl; order = λ order. order }
 
 -- No entry was made, though more may have been seen.
 order_saw : (lane : ℕ) (old new : Sharing) → IsPrefix old.sight.seen new.sight.seen → new.sight.own ≡ old.sight.own → new.sight.share ≡ old.sight.share → ((i : ℕ) → i < shard_count → IsOwnPart lane (part_at old.parts i) → IsOwnPart lane (part_at new.parts i)) → InOrder lane old → InOrder lane new
 order_saw lane old new front own share parts order = record {
   share = subst (λ n. 2 ≤ n) (sym share) order.share;
   rise = subst (λ es. RiseFrom 0 (positions es)) (sym own) order.rise;
-  below = subst (AllByRecursion (λ e. e.0 < length new.sight.seen)) (sym own) (below_more (length old.sight.seen) (length new.sight.seen) old.sight.own (prefix_length old.sight.seen new.sight.seen front) order.below);
+  below = subst (AllByRecursion (λ e. e.0 < length new.sight.seen)) (sym own) (below_more (length old.sight.seen) (length new.sight.seen) old.sight.own (front_length old.sight.seen new.sight.seen front) order.below);
   placed = subst (AllByRecursion (λ e. e.1.place.lane ≡ lane)) (sym own) order.placed;
   parts = λ i low. parts i low (order.parts i low);
 }
 
 -- A step of the table.
-moved_made : (place : Place) (old new : Sharing) (st : Step) → HasMade old new st → st.entry.place ≡ place → Moved place old new
-moved_made place old new st made its =
+steady_made : (place : Place) (old new : Sharing) (st : Step) → HasMade old new st → st.entry.place ≡ place → IsSteady place.lane old new
+steady_made place old new st made its =
     let parts : new.parts ≡ old.parts = ap (λ (x : Sharing). x.parts) made.same in
     let within : made.at < length (steps_of new.sight.seen) = elem_within (steps_of new.sight.seen) made.at st made.is in
     let long : length (steps_of new.sight.seen) ≡ length new.sight.seen = length-steps_after empty_table new.sight.seen in
@@ -158,11 +135,10 @@ moved_made place old new st made its =
         counters = ap (λ (x : Sharing). x.drawer.of) made.same;
         drawer = ap (λ (x : Sharing). x.drawer.share) made.same;
       };
-      added = record { more = one; own = made.own; front = made.front; late = (late, tt); below = (below, tt); placed = (its, tt) };
       order = λ order. record {
         share = subst (λ n. 2 ≤ n) (sym made.share) order.share;
         rise = subst (λ es. RiseFrom 0 (positions es)) (sym made.own) (rise_append 0 (length old.sight.seen) old.sight.own one order.rise order.below (omega arith) (late, tt));
-        below = subst (AllByRecursion (λ e. e.0 < length new.sight.seen)) (sym made.own) (all_append (λ e. e.0 < length new.sight.seen) old.sight.own one (below_more (length old.sight.seen) (length new.sight.seen) old.sight.own (prefix_length old.sight.seen new.sight.seen made.front) order.below) (below, tt));
+        below = subst (AllByRecursion (λ e. e.0 < length new.sight.seen)) (sym made.own) (all_append (λ e. e.0 < length new.sight.seen) old.sight.own one (below_more (length old.sight.seen) (length new.sight.seen) old.sight.own (front_length old.sight.seen new.sight.seen made.front) order.below) (below, tt));
         placed = subst (AllByRecursion (λ e. e.1.place.lane ≡ place.lane)) (sym made.own) (all_append (λ e. e.1.place.lane ≡ place.lane) old.sight.own one order.placed (ap (λ (p : Place). p.lane) its, tt));
         parts = λ i low. subst (λ ps. IsOwnPart place.lane (part_at ps i)) (sym parts) (order.parts i low);
       };
@@ -171,7 +147,7 @@ moved_made place old new st made its =
 -- One more step in a shard.
 part_stepped : (lane : ℕ) (p q : Part) (before : List ReplayEntry) (r : ReplayEntry) → IsPrefix p.seen before → q ≡ record p { seen = before ++ r ∷ []; own = p.own ++ (length before, r) ∷ [] } → r.place.lane ≡ lane → IsOwnPart lane p → IsOwnPart lane q
 part_stepped lane p q before r front is its part =
-    let low : length p.seen ≤ length before = prefix_length p.seen before front in
+    let low : length p.seen ≤ length before = front_length p.seen before front in
     let long : length (before ++ r ∷ []) ≡ length before + 1 = length-append before (r ∷ []) in
     let last : length before < length (before ++ r ∷ []) = omega arith in
     let high : length p.seen ≤ length (before ++ r ∷ []) = omega arith in
@@ -182,9 +158,9 @@ part_stepped lane p q before r front is its part =
       placed = all_append (λ e. e.1.place.lane ≡ lane) p.own one part.placed (its, tt);
     })
 
-moved_judged : (place its : Place) (old new : Sharing) (key id at : ℕ) (v : Verdict) → HasJudged old new its key id at v → its ≡ place → Moved place old new
+steady_judged : (place its : Place) (old new : Sharing) (key id at : ℕ) (v : Verdict) → HasJudged old new its key id at v → its ≡ place → IsSteady place.lane old new
 unfolding judged
-moved_judged place its old new key id at v made own =
+steady_judged place its old new key id at v made own =
     let k : ℕ = key % shard_count in
     let here = made.stepped.here in
     let r : ReplayEntry = judged here.before its key id at in
@@ -200,7 +176,6 @@ moved_judged place its old new key id at v made own =
         counters = ap (λ (x : Sharing). x.drawer.of) made.same;
         drawer = ap (λ (x : Sharing). x.drawer.share) made.same;
       };
-      added = added_none (λ p. p ≡ place) old new seen entries;
       order = λ order. order_saw place.lane old new seen entries share (λ i low part. elim (cases_eq i k) [
         | inl same ↦ subst (λ n. IsOwnPart place.lane (part_at new.parts n)) (sym same) (part_stepped place.lane (part_at old.parts k) (part_at new.parts k) here.before r here.front here.new_is (ap (λ (p : Place). p.lane) own) (subst (λ n. IsOwnPart place.lane (part_at old.parts n)) same part))
         | inr other ↦ subst (IsOwnPart place.lane) (sym (made.stepped.others i other)) part
@@ -208,31 +183,33 @@ moved_judged place its old new key id at v made own =
     }
 
 -- Neither the table nor a shard was asked.
-moved_quiet : (place : Place) (old new : Sharing) → new.name ≡ old.name → new.sight.share ≡ old.sight.share → new.sight.seen ≡ old.sight.seen → new.sight.own ≡ old.sight.own → new.parts ≡ old.parts → new.drawer.of ≡ old.drawer.of → new.drawer.share ≡ old.drawer.share → Moved place old new
-moved_quiet place old new name table seen own parts counters drawer =
+steady_quiet : (place : Place) (old new : Sharing) → new.name ≡ old.name → new.sight.share ≡ old.sight.share → new.sight.seen ≡ old.sight.seen → new.sight.own ≡ old.sight.own → new.parts ≡ old.parts → new.drawer.of ≡ old.drawer.of → new.drawer.share ≡ old.drawer.share → IsSteady place.lane old new
+steady_quiet place old new name table seen own parts counters drawer =
     let front : IsPrefix old.sight.seen new.sight.seen = subst (IsPrefix old.sight.seen) (sym seen) (prefix_self old.sight.seen) in
     record {
       shares = record { name = name; table = table; names = λ i. ap (λ ps. (part_at ps i).name) parts; parts = λ i. ap (λ ps. (part_at ps i).share) parts; counters = counters; drawer = drawer };
-      added = added_none (λ p. p ≡ place) old new front own;
       order = λ order. order_saw place.lane old new front own table (λ i low part. subst (λ ps. IsOwnPart place.lane (part_at ps i)) (sym parts) part) order;
     }
 
-moved_drew : (place : Place) (old new : Sharing) (key : ℕ) (d : Drawn) → Makes old (Drew key d) new → Moved place old new
-moved_drew place old new key (drawn.Id n) made =
-    moved_quiet place old new (ap (λ (x : Sharing). x.name) made.0) (ap (λ (x : Sharing). x.sight.share) made.0) (ap (λ (x : Sharing). x.sight.seen) made.0) (ap (λ (x : Sharing). x.sight.own) made.0) (ap (λ (x : Sharing). x.parts) made.0) (ap (λ (x : Sharing). x.drawer.of) made.0) (ap (λ (x : Sharing). x.drawer.share) made.0)
-moved_drew place old new key drawn.Spent made =
-    moved_quiet place old new (ap (λ (x : Sharing). x.name) made) (ap (λ (x : Sharing). x.sight.share) made) (ap (λ (x : Sharing). x.sight.seen) made) (ap (λ (x : Sharing). x.sight.own) made) (ap (λ (x : Sharing). x.parts) made) (ap (λ (x : Sharing). x.drawer.of) made) (ap (λ (x : Sharing). x.drawer.share) made)
+steady_drew : (place : Place) (old new : Sharing) (key : ℕ) (d : Drawn) → Makes old (Drew key d) new → IsSteady place.lane old new
+steady_drew place old new key (drawn.Id n) made =
+    steady_quiet place old new (ap (λ (x : Sharing). x.name) made.0) (ap (λ (x : Sharing). x.sight.share) made.0) (ap (λ (x : Sharing). x.sight.seen) made.0) (ap (λ (x : Sharing). x.sight.own) made.0) (ap (λ (x : Sharing). x.parts) made.0) (ap (λ (x : Sharing). x.drawer.of) made.0) (ap (λ (x : Sharing). x.drawer.share) made.0)
+steady_drew place old new key drawn.Spent made =
+    steady_quiet place old new (ap (λ (x : Sharing). x.name) made) (ap (λ (x : Sharing). x.sight.share) made) (ap (λ (x : Sharing). x.sight.seen) made) (ap (λ (x : Sharing). x.sight.own) made) (ap (λ (x : Sharing). x.parts) made) (ap (λ (x : Sharing). x.drawer.of) made) (ap (λ (x : Sharing). x.drawer.share) made)
 
-moved_given : (place : Place) (old new : Sharing) → HasGiven old new → Moved place old new
-moved_given place old new given = moved_quiet place old new (ap (λ (x : Sharing). x.name) given.same) given.share given.seen given.own (ap (λ (x : Sharing). x.parts) given.same) (ap (λ (x : Sharing). x.drawer.of) given.same) (ap (λ (x : Sharing). x.drawer.share) given.same)
+steady_given : (place : Place) (old new : Sharing) → HasGiven old new → IsSteady place.lane old new
+steady_given place old new given = steady_quiet place old new (ap (λ (x : Sharing). x.name) given.same) given.share given.seen given.own (ap (λ (x : Sharing). x.parts) given.same) (ap (λ (x : Sharing). x.drawer.of) given.same) (ap (λ (x : Sharing). x.drawer.share) given.same)
+
+steady_event : (place : Place) (at : ℕ) (old new : Sharing) (e : Event) → Makes old e new → IsOwn place at e → IsSteady place.lane old new
+steady_event place at old new (Stepped st) made own = steady_made place old new st made own.0
+steady_event place at old new (Judged j) made own = steady_judged place j.place old new j.key j.id j.at j.verdict made own.0
+steady_event place at old new (Drew key d) made own = steady_drew place old new key d made
+steady_event place at old new (GaveKey key g) made own = steady_given place old new made
+steady_event place at old new (GavePeer peer g) made own = steady_given place old new made
 
 -- An event of the line.
 pub moved_event : (place : Place) (at : ℕ) (old new : Sharing) (e : Event) → Makes old e new → IsOwn place at e → Moved place old new
-moved_event place at old new (Stepped st) made own = moved_made place old new st made own.0
-moved_event place at old new (Judged j) made own = moved_judged place j.place old new j.key j.id j.at j.verdict made own.0
-moved_event place at old new (Drew key d) made own = moved_drew place old new key d made
-moved_event place at old new (GaveKey key g) made own = moved_given place old new made
-moved_event place at old new (GavePeer peer g) made own = moved_given place old new made
+moved_event place at old new e made own = let steady = steady_event place at old new e made own in record { shares = steady.shares; order = steady.order; added = event_adds place at old new e made own }
 
 -- Some events of the line.
 pub moved_all : (place : Place) (at : ℕ) (old new : Sharing) (es : List Event) → MakesAll old es new → AllByRecursion (IsOwn place at) es → Moved place old new
@@ -253,14 +230,14 @@ moved_saw place old new saw =
         counters = ap (λ (d : Drawer). d.of) saw.drawer;
         drawer = ap (λ (d : Drawer). d.share) saw.drawer;
       };
-      added = added_none (λ p. p ≡ place) old new saw.table.front own;
+      added = saw_adds (λ p. p ≡ place) old new saw;
       order = λ order. order_saw place.lane old new saw.table.front own share (λ i low part.
           let p : Part = part_at old.parts i in
           let q : Part = part_at new.parts i in
           let its : q.own ≡ p.own = ap (λ (x : Part). x.own) (saw.shards i).same in
           record {
             rise = subst (λ es. RiseFrom 0 (positions es)) (sym its) part.rise;
-            below = subst (AllByRecursion (λ e. e.0 < length q.seen)) (sym its) (below_more (length p.seen) (length q.seen) p.own (prefix_length p.seen q.seen (saw.shards i).front) part.below);
+            below = subst (AllByRecursion (λ e. e.0 < length q.seen)) (sym its) (below_more (length p.seen) (length q.seen) p.own (front_length p.seen q.seen (saw.shards i).front) part.below);
             placed = subst (AllByRecursion (λ e. e.1.place.lane ≡ place.lane)) (sym its) part.placed;
           }) order;
     }
