@@ -1,6 +1,5 @@
 -- A line that is given up: what it held and owed is let go, one after the other.
-use Rattle.std.proofs.Common.{ℕ, ◌≡◌, ◌+◌, ◌≤◌, List, [], ◌∷◌, ◌++◌, length, refl, sym, ◌∙◌, ap, subst, arith}
-use Rattle.std.specs.Prelude.{⊤}
+use Rattle.std.proofs.Common.{ℕ, ◌≡◌, ◌+◌, List, [], ◌∷◌, ◌++◌, length, refl, sym, ◌∙◌, ap, subst, arith}
 use Rattle.std.specs.List.{AllByRecursion}
 use Rattle.ov_model.specs.declared.hold.Given.{Given}
 use Rattle.ov_model.specs.declared.hold.Owed.{Owed}
@@ -8,7 +7,7 @@ use Rattle.ov_model.specs.declared.hold.Owed.TheVariants as owed
 use Rattle.ov_model.specs.declared.place.Place.{Place}
 use Rattle.ov_model.specs.declared.reply.HoldView.{HoldView}
 use Rattle.ov_model.specs.Events.{Event, Stepped, GaveKey, GavePeer, release_of}
-use Rattle.ov_path.specs.Desks.{Holding, NoHold, Both, PeerLeft, HoldsKey, LeftPeer, Did, peer_left, after_first}
+use Rattle.ov_path.specs.Desks.{NoHold, Both, LeftPeer, Did, peer_left, after_first}
 use Rattle.ov_path.specs.Walks.{IsOwn}
 use Rattle.ov_share.specs.Shares.{Sharing, IsFree}
 use Rattle.ov_share.specs.Makings.{Makes}

@@ -1,6 +1,6 @@
 -- What each call of the desk but a step of the table leaves: the event, as its trait says, and all that is kept true.
-use Rattle.std.proofs.Common.{ℕ, zero, suc, ◌≡◌, ◌≢◌, ◌+◌, ◌%◌, ◌<◌, ◌≤◌, List, [], ◌∷◌, ◌++◌, length, length-append, append-nil, refl, sym, ◌∙◌, ap, subst, arith, inl, inr, Bool, true, false, not, if◌then◌else◌, ◌==◌}
-use Rattle.std.specs.Prelude.{⊤, Option, Some, None, Contains, filter, map}
+use Rattle.std.proofs.Common.{ℕ, ◌≡◌, ◌%◌, ◌<◌, ◌≤◌, List, [], ◌∷◌, ◌++◌, length, append-nil, refl, sym, ◌∙◌, ap, subst, arith, inl, inr, true, false, if◌then◌else◌, ◌==◌}
+use Rattle.std.specs.Prelude.{Option, Some, Contains, map}
 use Rattle.std.specs.List.{AllByRecursion}
 use Rattle.std.specs.VecDeque.{deque_capacity}
 use Rattle.std.specs.declared.collections.VecDeque.{VecDeque}
@@ -22,24 +22,24 @@ use Rattle.ov_model.specs.declared.place.Place.{Place}
 use Rattle.ov_model.specs.declared.replay.Verdict.{Verdict}
 use Rattle.ov_model.specs.declared.stand.Stand.{Stand}
 use Rattle.ov_model.specs.declared.stand.Stand.TheVariants as stand
-use Rattle.ov_model.specs.Events.{Event, Stepped, Judged, Drew, GaveKey, GavePeer, judgements_in, release_of}
+use Rattle.ov_model.specs.Events.{Event, Stepped, Drew, GaveKey, GavePeer, judgements_in, release_of}
 use Rattle.ov_model.specs.Keys.{key_of}
-use Rattle.ov_model.specs.Next.{stand_of, see, drew, judged, gave_key, gave_peer}
+use Rattle.ov_model.specs.Next.{stand_of, see, drew, judged}
 use Rattle.ov_model.specs.Tables.{Material}
 use Rattle.ov_model.specs.Via.{via_of}
-use Rattle.ov_path.specs.Desks.{Holding, NoHold, Both, PeerLeft, HoldsKey, LeftPeer, Grows, SameLine, IsLooked, Did, judged_at, owed_if, peer_left, hold_left, owed_left, after_first}
+use Rattle.ov_path.specs.Desks.{Holding, NoHold, Both, PeerLeft, HoldsKey, Grows, SameLine, IsLooked, Did, judged_at, owed_if, hold_left, owed_left, after_first}
 use Rattle.ov_path.proofs.Seeing.{seen}
 use Rattle.ov_past.specs.Pasts.{gave}
 use Rattle.ov_past.specs.Holds.{hold_without}
 use Rattle.ov_replay.specs.Desk.{part_at, HasStepped, HasNotStepped, HasLooked}
-use Rattle.ov_share.specs.Shares.{Common, Sharing, IsShareOf, HasDrawn}
-use Rattle.ov_share.specs.Makings.{Makes, HasGiven, HasJudged, SawMore}
+use Rattle.ov_share.specs.Shares.{Sharing, IsShareOf, HasDrawn}
+use Rattle.ov_share.specs.Makings.{Makes, HasGiven, SawMore}
 use Rattle.ov_table.specs.Cells.{key_cell}
 use Rattle.ov_ticket.specs.Asks.{IsLow, OwedFits}
 use Rattle.ov_ticket.specs.Tickets.{HasSeen, ReleasedAt}
 use Rattle.ov_ticket.specs.Within.{cell_of}
 use Rattle.ov_turn.proofs.Fronts.{prefix_self}
-use Rattle.ov_turn.proofs.Members.{has_here, has_le, counted_has}
+use Rattle.ov_turn.proofs.Members.{has_here, counted_has}
 use Rattle.ov_turn.specs.Lists.{has, without}
 use Rattle.ov_turn.specs.Seats.{Sight}
 use Rattle.ov_desk.specs.Sittings.{Sitting, shown_of, Happened, Stayed, GivesBack, WasReleased}

@@ -1,19 +1,16 @@
 -- What a step and a release make of a lane's share, and what more is known of the keys then.
-use Rattle.std.proofs.Common.{ℕ, ◌≡◌, ◌+◌, ◌<◌, ◌≤◌, List, [], ◌∷◌, ◌++◌, length, length-append, refl, sym, ◌∙◌, ap, subst, arith}
-use Rattle.std.specs.Prelude.{Option, Some, ⊤}
+use Rattle.std.proofs.Common.{ℕ, ◌≡◌, ◌+◌, ◌≤◌, List, [], ◌∷◌, ◌++◌, length, length-append, refl, sym, ◌∙◌, ap, subst, arith}
+use Rattle.std.specs.Prelude.{Some}
 use mathlib.Core.List.{IsPrefix}
 use mathlib.Core.Option.{some}
 use lib.ListN.{get_elem?}
-use Rattle.ov_model.specs.declared.act.Act.{Act}
-use Rattle.ov_model.specs.declared.act.Act.TheVariants as act
-use Rattle.ov_model.specs.declared.act.Call.{Call}
 use Rattle.ov_model.specs.declared.entry.Entry.{Entry}
 use Rattle.ov_model.specs.declared.hold.Owed.{Owed}
 use Rattle.ov_model.specs.declared.hold.Owed.TheVariants as owed
 use Rattle.ov_model.specs.declared.place.Place.{Place}
-use Rattle.ov_model.specs.Tables.{Table, Material, empty_table}
+use Rattle.ov_model.specs.Tables.{Table, empty_table}
 use Rattle.ov_model.specs.Step.{step, released, key_released}
-use Rattle.ov_model.specs.Events.{Step, steps_of, steps_after, release_of}
+use Rattle.ov_model.specs.Events.{Step, steps_of, release_of}
 use Rattle.ov_model.specs.Keys.{key_of}
 use Rattle.ov_model.specs.Runs.{last_table}
 use Rattle.ov_model.proofs.Going.{steps_after-append}
@@ -21,9 +18,7 @@ use Rattle.ov_model.proofs.Stands.{length-steps_after}
 use Rattle.ov_path.specs.Desks.{Grows}
 use Rattle.ov_share.specs.Shares.{Sharing}
 use Rattle.ov_share.specs.Makings.{HasMade, SpendKnown}
-use Rattle.ov_table.specs.Recorded.{entry_of}
 use Rattle.ov_table.proofs.Installed.{key_of-append}
-use Rattle.ov_ticket.specs.Within.{release_call}
 use Rattle.ov_turn.proofs.Fronts.{prefix_more}
 
 -- ---- a history that goes on

@@ -1,6 +1,6 @@
 -- What the steps of the table answer.
-use Rattle.std.proofs.Common.{ℕ, ◌≡◌, Bool, true, false, refl, sym, ◌∙◌, ap, [], ◌∷◌, List}
-use Rattle.std.specs.Prelude.{⊤, Option, max}
+use Rattle.std.proofs.Common.{ℕ, ◌≡◌, Bool, true, false, refl}
+use Rattle.std.specs.Prelude.{Option}
 use Rattle.ov_base.specs.declared.address.Addr.{Addr}
 use Rattle.ov_base.specs.declared.address.Transport.{Transport}
 use Rattle.ov_model.specs.declared.ident.PeerId.{PeerId}
@@ -8,15 +8,13 @@ use Rattle.ov_model.specs.declared.ident.KeyId.{KeyId}
 use Rattle.ov_model.specs.declared.command.Command.{Command}
 use Rattle.ov_model.specs.declared.command.Command.TheVariants as command
 use Rattle.ov_model.specs.declared.act.InnerKind.{InnerKind}
-use Rattle.ov_model.specs.declared.reply.Settled.{Settled}
-use Rattle.ov_model.specs.declared.reply.Reply.{Reply}
 use Rattle.ov_model.specs.declared.reply.Reply.TheVariants as reply
-use Rattle.ov_model.specs.Tables.{Peer, Key, Table, by_id, by_serial, by_vpn, by_key_id, in_slot}
+use Rattle.ov_model.specs.Tables.{Table, by_id, by_serial, by_vpn, by_key_id, in_slot}
 use Rattle.ov_model.specs.Step.{Outcome, peer_new_checks, peer_made, peer_new, peer_set_checks, peer_changed, peer_set, peer_get, peer_dump, remove_peer, key_new_checks, key_made, key_new, key_get, key_swap, key_del, tx_look, rx_peer, rx_look, keep_look, sent, settle, settled_as, tick, down, command_step}
 use Rattle.ov_model.specs.Next.{is_killed}
-use Rattle.ov_model.specs.Path.{removed, spent_reply, spent_taken}
+use Rattle.ov_model.specs.Path.{spent_reply}
 use Rattle.ov_model.proofs.StepCases.{unless_has, found_has}
-use Rattle.ov_path.specs.Desks.{IsLookReply, IsKeepReply, IsSettledReply, IsSpendReply, is_tick, is_ticked}
+use Rattle.ov_path.specs.Desks.{IsLookReply, IsKeepReply, IsSpendReply, is_tick, is_ticked}
 
 pub tx_fits : (t : Table) (now : ℕ) (a : Addr) → IsLookReply (tx_look t now a).reply
 unfolding tx_look

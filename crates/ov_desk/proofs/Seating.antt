@@ -1,6 +1,6 @@
 -- What the fields of the desk keep true, and what its callers are told, after each call.
-use Rattle.std.proofs.Common.{ℕ, ◌≡◌, ◌<◌, ◌≤◌, List, [], ◌∷◌, ◌++◌, length, refl, sym, ◌∙◌, ap, subst, arith}
-use Rattle.std.specs.Prelude.{⊤, Option, Result, Ok, Err, OnErr, map}
+use Rattle.std.proofs.Common.{ℕ, ◌≡◌, ◌<◌, List, [], ◌∷◌, ◌++◌, refl, sym, ◌∙◌, ap, subst}
+use Rattle.std.specs.Prelude.{Option, Result, Ok, Err, OnErr, map}
 use Rattle.std.specs.VecDeque.{deque_capacity}
 use Rattle.std.specs.declared.collections.VecDeque.{VecDeque}
 use Rattle.std.specs.declared.alloc.Global.{Global}
@@ -22,7 +22,7 @@ use Rattle.ov_model.specs.Tables.{Material}
 use Rattle.ov_path.specs.Desks.{Holding, NoHold, HoldsKey, MayCall, IsLooked, Did, Called, SameLine, judged_at, owed_if, held_after}
 use Rattle.ov_past.specs.Pasts.{gave}
 use Rattle.ov_past.specs.Holds.{hold_without}
-use Rattle.ov_replay.specs.Desk.{HasStepped, HasNotStepped}
+use Rattle.ov_replay.specs.Desk.{HasStepped}
 use Rattle.ov_share.specs.Shares.{Common, Sharing, IsShareOf, IsFree, HasDrawn}
 use Rattle.ov_ticket.specs.Asks.{OwedFits, MayAsk, found_pair}
 use Rattle.ov_ticket.specs.Tickets.{HasSeen, StepAt, ReleasedAt}
@@ -31,8 +31,8 @@ use Rattle.ov_turn.specs.Lists.{without}
 use Rattle.ov_turn.specs.Seats.{Sight}
 use Rattle.ov_desk.specs.Sittings.{Sitting, shown_of, Happened, Stayed, GivesBack, WasReleased}
 use Rattle.ov_desk.specs.Kept.{IsKept, IsSeated, IsDry, cells_of_hold, sitting}
-use Rattle.ov_desk.proofs.Leaving.{EventDone, Kept, CanGive, ReleaseDone, given_share, given_back, drawn_sight, draw_done, key_low, replay_done, replay_stayed, table_stayed, can_give, give_done, give_fits, release_done}
-use Rattle.ov_desk.proofs.Stepping.{CallDone, stepped_desk, call_done, may_ask}
+use Rattle.ov_desk.proofs.Leaving.{Kept, CanGive, ReleaseDone, given_share, drawn_sight, draw_done, key_low, replay_done, table_stayed, can_give, give_done, give_fits, release_done}
+use Rattle.ov_desk.proofs.Stepping.{CallDone, call_done, may_ask}
 
 pub on_err : {T E P : Type 0} (r : Result T E) → P → OnErr r P
 on_err (Ok x) p = tt

@@ -1,6 +1,6 @@
 -- Where an event leaves a line: whether it may still be judged, and whether it found its key spent.
-use Rattle.std.proofs.Common.{ℕ, ◌≡◌, List, [], ◌∷◌, ◌++◌, refl, sym, ◌∙◌, ap, subst, append-nil, Bool, inl, inr, arith}
-use Rattle.std.specs.Prelude.{⊤, Contains, Option}
+use Rattle.std.proofs.Common.{ℕ, ◌≡◌, List, [], ◌∷◌, ◌++◌, refl, sym, ◌∙◌, ap, subst, append-nil, Bool}
+use Rattle.std.specs.Prelude.{⊤, Option}
 use Rattle.ov_base.specs.declared.address.Transport.{Transport}
 use Rattle.ov_model.specs.declared.act.Act.{Act}
 use Rattle.ov_model.specs.declared.act.Act.TheVariants as act
@@ -18,7 +18,7 @@ use Rattle.ov_model.specs.declared.stand.Stand.{Stand}
 use Rattle.ov_model.specs.declared.stand.Stand.TheVariants as stand
 use Rattle.ov_model.specs.Events.{Event, Stepped, judgements_in, release_of}
 use Rattle.ov_model.specs.Next.{stand_of, see, stepped, looked, drew, judged, gave_key, gave_peer}
-use Rattle.ov_path.specs.Desks.{Holding, NoHold, Both, PeerLeft, View, MayCall, IsLooked, IsDrawn, IsJudged, IsSpent, IsPause}
+use Rattle.ov_path.specs.Desks.{Holding, Both, View, MayCall, IsLooked, IsDrawn, IsJudged, IsSpent, IsPause}
 use Rattle.ov_path.proofs.Seeing.{judgements_in-append, seen}
 use Rattle.ov_desk.specs.Kept.{IsDry, IsEarly, IsUnjudged}
 

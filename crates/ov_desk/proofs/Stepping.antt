@@ -1,38 +1,32 @@
 -- What a step of the table leaves: any that a line may ask for.
 use Rattle.std.proofs.Common.{ℕ, ◌≡◌, ◌<◌, List, [], ◌∷◌, ◌++◌, length, append-nil, refl, sym, ◌∙◌, ap, subst, arith, Bool, true, false}
-use Rattle.std.specs.Prelude.{⊤, Option, Some, None, Contains, is_some, nat_eq, max, map}
-use Rattle.std.specs.List.{IsDistinct}
+use Rattle.std.specs.Prelude.{Option, Some, None, Contains, is_some, max, map}
 use mathlib.Core.List.{IsPrefix}
-use Rattle.ov_base.specs.declared.address.Addr.{Addr}
-use Rattle.ov_base.specs.declared.address.Transport.{Transport}
 use Rattle.ov_model.specs.declared.act.Act.{Act}
 use Rattle.ov_model.specs.declared.act.Act.TheVariants as act
 use Rattle.ov_model.specs.declared.act.Call.{Call}
-use Rattle.ov_model.specs.declared.act.InnerKind.{InnerKind}
 use Rattle.ov_model.specs.declared.command.Command.{Command}
 use Rattle.ov_model.specs.declared.draw.Drawn.TheVariants as drawn
 use Rattle.ov_model.specs.declared.entry.Entry.{Entry}
 use Rattle.ov_model.specs.declared.hold.Owed.{Owed}
-use Rattle.ov_model.specs.declared.ident.KeyId.{KeyId}
-use Rattle.ov_model.specs.declared.ident.PeerId.{PeerId}
 use Rattle.ov_model.specs.declared.place.Place.{Place}
 use Rattle.ov_model.specs.declared.reply.HoldView.{HoldView}
 use Rattle.ov_model.specs.declared.reply.Reply.{Reply}
 use Rattle.ov_model.specs.declared.reply.Reply.TheVariants as reply
 use Rattle.ov_model.specs.declared.stand.Stand.{Stand}
 use Rattle.ov_model.specs.declared.stand.Stand.TheVariants as stand
-use Rattle.ov_model.specs.Events.{Event, Stepped, judgements_in}
+use Rattle.ov_model.specs.Events.{Event}
 use Rattle.ov_model.specs.Keys.{key_of}
 use Rattle.ov_model.specs.Next.{stand_of, stepped, is_killed}
-use Rattle.ov_model.specs.Path.{removed, spent_reply, spent_taken}
+use Rattle.ov_model.specs.Path.{spent_reply, spent_taken}
 use Rattle.ov_model.specs.Runs.{IsRun, last_table, notes_of}
 use Rattle.ov_model.specs.Step.{Outcome, step, May}
 use Rattle.ov_model.specs.Tables.{Table, Material, empty_table}
 use Rattle.ov_model.proofs.Going.{table_after-append}
-use Rattle.ov_model.proofs.Removing.{Keeps, tx_look_keeps, rx_look_keeps, keep_look_keeps, sent_keeps, settle_keeps, Spends, spend_spends}
+use Rattle.ov_model.proofs.Removing.{tx_look_keeps, rx_look_keeps, keep_look_keeps, sent_keeps, settle_keeps, Spends, spend_spends}
 use Rattle.ov_model.proofs.Tallies.{removed_differ}
 use Rattle.ov_path.specs.Desks.{Holding, NoHold, Both, PeerLeft, HoldsKey, HoldsPeer, MayCall, IsSpent, Grows, IsReplyOf, Joins, HoldHas, HasMaterial, Called, held_after, look_holds, stepped_as}
-use Rattle.ov_share.specs.Shares.{Common, Sharing, IsShareOf}
+use Rattle.ov_share.specs.Shares.{Sharing, IsShareOf}
 use Rattle.ov_share.specs.Makings.{SpendKnown}
 use Rattle.ov_table.specs.Cells.{key_cell}
 use Rattle.ov_table.specs.Pairs.{pair_in}
@@ -46,8 +40,8 @@ use Rattle.ov_ticket.specs.Within.{cell_of}
 use Rattle.ov_turn.proofs.Members.{has_here, counted_has}
 use Rattle.ov_ticket.specs.Tickets.{StepAt}
 use Rattle.ov_desk.specs.Sittings.{Sitting, shown_of, Happened}
-use Rattle.ov_desk.specs.Kept.{IsKept, IsInRange, PairFits, IsDry, IsEarly, IsUnjudged, IsFew, cells_of_hold}
-use Rattle.ov_desk.proofs.Standing.{IsNotSpent, GoesOn, call_on, not_dry, stands_by, unjudged_more}
+use Rattle.ov_desk.specs.Kept.{IsKept, IsInRange, PairFits, IsDry, IsUnjudged, IsFew, cells_of_hold}
+use Rattle.ov_desk.proofs.Standing.{GoesOn, call_on, not_dry, stands_by, unjudged_more}
 use Rattle.ov_desk.proofs.Making.{key_grows, seen_on, entry_made}
 use Rattle.ov_desk.proofs.Replies.{tx_fits, rx_fits, keep_fits, sent_done, settle_says, is_spend, killed_is, command_ticked}
 use Rattle.ov_desk.proofs.Leaving.{pair_on, last_held}

@@ -5,7 +5,7 @@ use Rattle.ov_model.specs.declared.line.Route.{Route}
 use Rattle.ov_model.specs.declared.hold.Owed.{Owed}
 use Rattle.ov_model.specs.declared.hold.Owed.TheVariants as owed
 use Rattle.ov_model.specs.declared.place.Place.{Place}
-use Rattle.ov_model.specs.Events.{Event, Stepped, Judged, Drew, GaveKey, GavePeer, judgements_in, release_of}
+use Rattle.ov_model.specs.Events.{Event, Stepped, Judged, judgements_in, release_of}
 use Rattle.ov_model.specs.Keys.{key_of}
 use Rattle.ov_model.specs.Via.{via_of}
 use Rattle.ov_path.specs.Desks.{Holding, NoHold, HoldsKey, LeftPeer, View, Did}

@@ -103,6 +103,7 @@ impl<'a, R: Wait> LaneDesk<'a, R> {
         requires hold { self.hold ≡ NoHold }
         requires owing { self.owing ≡ [] }
         ensures share { result.0 ≡ self.entry.share }
+        ensures of { IsShareOf self.entry.common result.0 }
         ensures free { IsFree result.0 }
         ensures room { HasRoom result.1 }
     {
@@ -194,9 +195,7 @@ impl<'a, R: Wait> LaneDesk<'a, R> {
     {
         self.hold = self.hold.without(owed);
         let cell = cell(owed);
-        let given = self
-            .words
-            .give_back(&mut self.share, &mut self.held, cell);
+        let given = self.words.give_back(&mut self.share, &mut self.held, cell);
         owe_if(&mut self.owed, given, owed);
         self.past.push(Happening::Gave(owed, given));
         given

@@ -113,21 +113,21 @@ one_history w passes s journal notes shards has end =
       each = parts journal shards s passes end.seen whole shards_whole has.seen has.own.each (λ i lt. (has.judged i lt).each) has.orderly;
       within = all_named (λ e. 0 < count_of e.place.lane (map (λ p. p.number) passes)) journal s.sight.own whole has.own.within;
       judged_within = all_slots (AllByRecursion (λ r. 0 < count_of r.place.lane (map (λ p. p.number) passes))) shards (λ i rs at.
-      subst (AllByRecursion (λ r. 0 < count_of r.place.lane (map (λ p. p.number) passes))) (get_or_from_slice_get shards i rs [] at)
-      (all_named (λ r. 0 < count_of r.place.lane (map (λ p. p.number) passes)) (get_or shards i []) (part_at s.parts i).own (shards_whole i (inside i rs at)) (has.judged i (inside i rs at)).within));
+          subst (AllByRecursion (λ r. 0 < count_of r.place.lane (map (λ p. p.number) passes))) (get_or_from_slice_get shards i rs [] at)
+          (all_named (λ r. 0 < count_of r.place.lane (map (λ p. p.number) passes)) (get_or shards i []) (part_at s.parts i).own (shards_whole i (inside i rs at)) (has.judged i (inside i rs at)).within));
       drawn = λ key. drawn_once key;
     }
   where
     drawn_once : (key : ℕ) → DrawnOnce w.counters.first passes key
     drawn_once key = subst (λ (first : ℕ). DrawnOnce first passes key) (ap (λ c. c.first) has.of.counters) (
-      let ended = end.ended key in
-      record {
-        end = ended.0;
-        most = ended.1;
-        once = λ n. sym (has.drawn key n) ∙ ended.2 n;
-        spent = all_weaker (λ p. (k : ℕ) → Contains p.share.drawer.spent k → Contains s.drawer.spent k) (λ p. Contains p.share.drawer.spent key → ended.0 ≡ 4294967296) (λ p kept found. ended.3 (kept key found)) passes has.spent;
-      }
-    )
+        let ended = end.ended key in
+        record {
+          end = ended.0;
+          most = ended.1;
+          once = λ n. sym (has.drawn key n) ∙ ended.2 n;
+          spent = all_weaker (λ p. (k : ℕ) → Contains p.share.drawer.spent k → Contains s.drawer.spent k) (λ p. Contains p.share.drawer.spent key → ended.0 ≡ 4294967296) (λ p kept found. ended.3 (kept key found)) passes has.spent;
+        }
+        )
 
 -- The shares of all passes are all there are.
 pub all_passes_some : (o : Shared) (passes : List Passing) → AreAllPasses o passes → 0 < length passes

@@ -14,8 +14,7 @@ ghost use Rattle.ov_turn.specs.Lists.{has, without};
 
 use crate::words::{Share, Words};
 use ov_base::Memory;
-use ov_hold::Held;
-use ov_hold::give_back;
+use ov_hold::{Held, give_back};
 use ov_keys::KeyPair;
 use ov_model::{Call, Command, Drawn, Given, Owed, Place, Reply, Verdict};
 use ov_past::Happening;
@@ -75,7 +74,7 @@ impl Words {
         ensures same { share.new ≡ record share.old { sight = share.new.sight } }
         ensures ok { IfOk result (λ r.
             StepAt share.old.sight share.new.sight place call.now r.0 (event_of r.1)
-                owed.old.items owed.new.items) }
+            owed.old.items owed.new.items) }
         ensures err { OnErr result (HasSeen share.old.sight share.new.sight) }
         ensures kept { OnErr result (owed.new.items ≡ owed.old.items) }
         ensures held { held.new ≡ share.new.sight.holds }
@@ -124,10 +123,12 @@ impl Words {
         requires has { has cell held.old ≡ 1 }
         requires holds { 0 < count_of cell share.old.sight.holds }
         ensures of { IsShareOf self.now share.new }
-        ensures same { share.new ≡ record share.old { sight = record share.old.sight {
+        ensures same { share.new ≡ record share.old {
+          sight = record share.old.sight {
             holds = without cell share.old.sight.holds;
             owes = share.new.sight.owes;
-        } } }
+          };
+        } }
         ensures owes { Owes result cell share.old.sight.owes share.new.sight.owes }
         ensures held { held.new ≡ without cell held.old }
     {
@@ -157,8 +158,7 @@ impl Words {
             HasStepped share.old.parts share.new.parts place key id at v) }
         ensures err { OnErr result (HasNotStepped share.old.parts share.new.parts key) }
     {
-        self.replays
-            .step(rt, &mut share.parts, place, key, id, at)
+        self.replays.step(rt, &mut share.parts, place, key, id, at)
     }
 
     /// Asks the counter of a key for a packet id.

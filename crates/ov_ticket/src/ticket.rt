@@ -86,7 +86,7 @@ pub fn step_once<R: Wait>(
     ensures lock { IsSeatOf lock.entry.now result.0 }
     ensures ok { IfOk result.1 (λ r.
         StepAt (sight_of seat) (sight_of result.0) place call.now r.0 (event_of r.1) owed.old.items
-            owed.new.items) }
+        owed.new.items) }
     ensures err { OnErr result.1 (HasSeen (sight_of seat) (sight_of result.0)) }
     ensures kept { OnErr result.1 (owed.new.items ≡ owed.old.items) }
     ensures held { held.new ≡ holds_of result.0 }

@@ -1,6 +1,6 @@
 -- The line is given up.
 use Rattle.std.proofs.Common.{◌≡◌, ◌+◌, ◌<◌, length, arith}
-use Rattle.ov_desk.proofs.Ending.{Releasing, releasing_none, releasing_more, nothing_left, given_up}
+use Rattle.ov_desk.proofs.Ending.{releasing_none, releasing_more, nothing_left, given_up}
 use Rattle.ov_desk.proofs.desk.LaneDesk.give_up.Goals as goal
 
 pub loop-done-init : goal.loop-done-init

@@ -1,5 +1,5 @@
 -- What the line holds is given back.
-use Rattle.std.proofs.Common.{◌≡◌, ◌∙◌, sym, ap}
+use Rattle.std.proofs.Common.{◌∙◌, sym, ap}
 use Rattle.ov_past.specs.Holds.{holding}
 use Rattle.ov_desk.proofs.Ending.{let_none, let_peer, let_both}
 use Rattle.ov_desk.proofs.desk.LaneDesk.let_all_go.Goals as goal

@@ -1,5 +1,5 @@
 -- What is given back.
-use Rattle.std.proofs.Common.{ap, sym, ◌≡◌, ◌<◌, ◌≤◌, subst, arith}
+use Rattle.std.proofs.Common.{sym, ◌≡◌, ◌<◌, ◌≤◌, subst, arith}
 use Rattle.std.specs.VecDeque.{deque_capacity}
 use Rattle.ov_base.specs.Sums.{count_of}
 use Rattle.ov_turn.specs.Lists.{has}
