@@ -4,3 +4,5 @@ pub mod Turns
 pub mod Keeping
 -- What the events of one line add to a lane's own entries, and what they leave as it was.
 pub mod Moving
+-- What a lane's desk has made of its share since a line began, and what is left where the line ends.
+pub mod Since
