@@ -6,3 +6,5 @@ pub mod Keeping
 pub mod Moving
 -- What a lane's desk has made of its share since a line began, and what is left where the line ends.
 pub mod Since
+-- A lane's lines, one after the other.
+pub mod Following

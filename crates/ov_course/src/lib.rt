@@ -6,5 +6,5 @@ mod lines;
 mod walk;
 
 pub use gate::{Gate, OpenGate};
-pub use lines::run_line;
+pub use lines::{run_line, run_lines};
 pub use walk::walk_out;
