@@ -1,17 +1,16 @@
 -- A lane's lines, one after the other.
-use Rattle.std.proofs.Common.{ℕ, ◌≡◌, ◌+◌, ◌≤◌, zero, suc, Bool, true, false, List, [], ◌∷◌, ◌++◌, length, refl, sym, ◌∙◌, ap, subst, arith, append-nil, append_assoc, length-append}
+use Rattle.std.proofs.Common.{ℕ, ◌≡◌, ◌+◌, ◌≤◌, true, false, List, [], ◌∷◌, ◌++◌, length, refl, sym, ◌∙◌, ap, subst, arith, append-nil, append_assoc, length-append}
 use Rattle.std.specs.Prelude.{Some, slice_get}
-use Rattle.std.specs.List.{AllByRecursion}
 use Rattle.ov_model.specs.declared.answer.Answer.{Answer}
 use Rattle.ov_model.specs.declared.line.Line.{Line}
 use Rattle.ov_model.specs.declared.place.Place.{Place}
 use Rattle.ov_model.specs.Via.{via_of}
-use Rattle.ov_share.specs.Shares.{Sharing, IsFree}
+use Rattle.ov_share.specs.Shares.{IsFree}
 use Rattle.ov_share.specs.Keepings.{LaneKept}
 use Rattle.ov_share.proofs.Adding.{added_none, added_then, added_wider}
 use Rattle.ov_turn.proofs.Fronts.{prefix_self}
 use Rattle.ov_desk.specs.Sittings.{Sitting, at_rest}
-use Rattle.ov_course.specs.Courses.{RestsAgain, LineAnswered, StandFrom, LinesAnswered, IsFrom, LinesRan}
+use Rattle.ov_course.specs.Courses.{RestsAgain, LineAnswered, LinesAnswered, IsFrom, LinesRan}
 use Rattle.ov_course.proofs.Moving.{shares_itself, shares_on}
 
 -- ---- the desk between two lines

@@ -1,16 +1,15 @@
 -- What each event of a lane's line keeps true of the lane's own steps, and the line's answer.
-use Rattle.std.proofs.Common.{ℕ, ◌≡◌, ◌≢◌, ◌+◌, ◌%◌, ◌<◌, ◌≤◌, zero, suc, List, [], ◌∷◌, ◌++◌, length, refl, sym, ◌∙◌, ap, subst, arith, append-nil, append_assoc, inl, inr, ◌==◌}
-use Rattle.std.specs.Prelude.{Some, slice_get, map, get_or, Contains}
+use Rattle.std.proofs.Common.{ℕ, ◌≡◌, ◌≢◌, ◌+◌, ◌%◌, ◌<◌, zero, suc, List, [], ◌∷◌, ◌++◌, length, refl, sym, ◌∙◌, ap, subst, arith, append-nil, append_assoc, inl, inr}
+use Rattle.std.specs.Prelude.{Some, slice_get, map, get_or}
 use Rattle.std.specs.List.{AllByRecursion, AllPairs, range_with_len}
 use Rattle.std.proofs.lemmas.Bool.{cases_eq, eq-eqb, ne_eqb}
 use Rattle.std.proofs.lemmas.List.{map-append}
 use Rattle.std.proofs.lemmas.List.Elements.{Contains-append_left}
 use Rattle.std.proofs.lemmas.List.Quantifiers.{all_pairs_push}
-use mathlib.Core.List.{IsPrefix}
 use mathlib.Core.Option.{some}
 use lib.ListN.{get_elem?}
 use Rattle.ov_base.specs.declared.address.Addr.{Addr}
-use Rattle.ov_draw.specs.Drawer.{Drawer, IsAbove, times}
+use Rattle.ov_draw.specs.Drawer.{Drawer, IsAbove}
 use Rattle.ov_model.specs.declared.act.Act.{Act}
 use Rattle.ov_model.specs.declared.act.Act.TheVariants as act
 use Rattle.ov_model.specs.declared.answer.Answer.{Answer}
@@ -21,7 +20,7 @@ use Rattle.ov_model.specs.declared.line.Line.{Line}
 use Rattle.ov_model.specs.declared.place.Place.{Place}
 use Rattle.ov_model.specs.declared.replay.ReplayEntry.{ReplayEntry}
 use Rattle.ov_model.specs.declared.replay.Verdict.{Verdict}
-use Rattle.ov_model.specs.Events.{Event, Stepped, Judged, Drew, GaveKey, GavePeer, Step, Judgement, DrawnId, judgement_of, drawn_id, steps_of, steps_in, judgements_in, draws_in}
+use Rattle.ov_model.specs.Events.{Event, Stepped, Judged, Drew, GaveKey, GavePeer, Step, Judgement, DrawnId, judgement_of, steps_of, steps_in, judgements_in, draws_in}
 use Rattle.ov_model.specs.Keys.{key_of, sealed_in, sealed_ids, ids_under}
 use Rattle.ov_model.specs.Lanes.{judged_in}
 use Rattle.ov_model.specs.Legal.{LinesRise}

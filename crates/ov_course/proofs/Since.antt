@@ -1,23 +1,20 @@
 -- What a lane's desk has made of its share since a line began, and what is left where the line ends.
 use Rattle.std.proofs.Common.{ℕ, ◌≡◌, List, [], ◌∷◌, ◌++◌, length, refl, sym, ◌∙◌, ap, subst, append-nil, append_assoc}
-use Rattle.std.specs.Prelude.{Result, Ok, Err, IfOk, Some, slice_get}
 use Rattle.ov_base.specs.declared.address.Addr.{Addr}
-use Rattle.ov_base.specs.declared.memory.Memory.{Memory}
 use Rattle.ov_model.specs.declared.answer.Answer.{Answer}
 use Rattle.ov_model.specs.declared.line.Line.{Line}
-use Rattle.ov_model.specs.declared.line.Route.{Route}
 use Rattle.ov_model.specs.declared.place.Place.{Place}
 use Rattle.ov_model.specs.Events.{Event}
 use Rattle.ov_model.specs.Via.{via_of}
 use Rattle.ov_path.specs.Desks.{NoHold, IsNew}
 use Rattle.ov_path.specs.Walks.{IsOwn, Over}
-use Rattle.ov_share.specs.Shares.{Common, Sharing, IsFree}
-use Rattle.ov_share.specs.Keepings.{LaneKept, IsOrderly}
+use Rattle.ov_share.specs.Shares.{IsFree}
+use Rattle.ov_share.specs.Keepings.{LaneKept}
 use Rattle.ov_desk.specs.Sittings.{Sitting, shown_of, Happened, JudgesFirst, Stayed, at_rest, HasGivenUp}
 use Rattle.ov_course.specs.Runs.{Ran, LineDone, LineStopped}
-use Rattle.ov_course.specs.Courses.{HasSameShares, RestsAgain, LineAnswered}
+use Rattle.ov_course.specs.Courses.{RestsAgain, LineAnswered}
 use Rattle.ov_course.proofs.Keeping.{kept_event, kept_done}
-use Rattle.ov_course.proofs.Moving.{InOrder, in_order, order_free, Moved, moved_itself, moved_on, moved_event, moved_all, moved_saw}
+use Rattle.ov_course.proofs.Moving.{in_order, order_free, Moved, moved_itself, moved_on, moved_event, moved_all, moved_saw}
 
 -- ---- from event to event
 
