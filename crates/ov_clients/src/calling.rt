@@ -37,9 +37,10 @@ pub fn call_on_two_threads<R: Threads + Wait + Sync>(
     first: &Command,
     second: &Command,
 ) -> Result<(Closed, Reply, Reply), Memory>
-    ensures { IfOk result (λ r. AreCalls first.now second.now r.0.journal r.0.notes r.1 r.2) }
+    ensures { IfOk result (λ r.
+        AreCalls first.now second.now r.0.journal r.0.notes r.0.shards r.1 r.2) }
 {
-    let (ovpn, passes) = Ovpn::new(alloc, 2)?;
+    let (ovpn, passes) = Ovpn::new(alloc, 1, 2, ListOf::new(alloc))?;
     let mut passes = passes.into_vec();
     let Some(two) = passes.pop() else {
         unreachable!()

@@ -1,37 +1,56 @@
 -- What a call keeps of a pass, and a table with one pass.
-use Rattle.std.proofs.Common.{◌≡◌, ℕ, List, [], ◌∷◌, ◌++◌, length, length-append, refl, sym, ap, ◌∙◌, subst, arith, Ok, Err}
+use Rattle.std.proofs.Common.{◌≡◌, ◌<◌, ℕ, List, [], ◌∷◌, ◌++◌, length, length-append, refl, sym, ap, ◌∙◌, subst, arith, Ok, Err}
 use Rattle.std.specs.Prelude.{Result, IfOk, OnErr}
 use Rattle.ov_base.specs.declared.memory.Memory.{Memory}
 use Rattle.ov_model.specs.declared.command.Command.{Command}
 use Rattle.ov_model.specs.declared.reply.Reply.{Reply}
-use Rattle.ov_lane.specs.Passes.{Passing, Shared, IsFree, AreAllPasses, CallDone, OnlySaw}
+use Rattle.ov_model.specs.Limits.{shard_count}
+use Rattle.ov_replay.specs.Desk.{part_at}
+use Rattle.ov_share.specs.Shares.{Common, Sharing, IsShareOf}
+use Rattle.ov_share.specs.Passings.{Passing}
+use Rattle.ov_lane.specs.Passes.{Shared, IsPassOf, IsFree, AreAllPasses, CallDone, OnlySaw}
 
 -- A call keeps whose the pass is, its number and its shares, and a pass that holds nothing.
 pub record Keeps (old new : Passing) : Type 0 where
-  pub name : new.name ≡ old.name
+  pub of : (w : Common) → IsShareOf w old.share → IsShareOf w new.share
   pub number : new.number ≡ old.number
-  pub share : new.sight.share ≡ old.sight.share
+  pub table : new.share.sight.share ≡ old.share.sight.share
+  pub parts : new.share.parts ≡ old.share.parts
+  pub drawer : new.share.drawer ≡ old.share.drawer
   pub free : IsFree old → IsFree new
 
+same_of : (w : Common) (old new : Sharing) → new ≡ record old { sight = new.sight } → IsShareOf w old → IsShareOf w new
+same_of w old new same of = subst (IsShareOf w) (sym same) (record { table = of.table; shards = of.shards; counters = of.counters })
+
 pub kept_by : (old new : Passing) (at : ℕ) (command : Command) (res : Result Reply Memory) → IfOk res (λ r. CallDone old new at command r) → OnErr res (OnlySaw old new) → Keeps old new
-kept_by old new at command (Ok r) done saw = record {
-  name = ap (λ (p : Passing). p.name) done.same;
-  number = ap (λ (p : Passing). p.number) done.same;
-  share = done.called.share;
-  free = λ free. record { holds = done.called.holds ∙ free.holds; owes = done.called.owes };
-}
-kept_by old new at command (Err e) done saw = record {
-  name = ap (λ (p : Passing). p.name) saw.same;
-  number = ap (λ (p : Passing). p.number) saw.same;
-  share = ap (λ s. s.share) saw.seen.same;
-  free = λ free. record { holds = ap (λ s. s.holds) saw.seen.same ∙ free.holds; owes = ap (λ s. s.owes) saw.seen.same ∙ free.owes };
-}
+kept_by old new at command (Ok r) done saw =
+    let share : new.share ≡ record old.share { sight = new.share.sight } = ap (λ (p : Passing). p.share) done.same in
+    record {
+      of = λ w of. same_of w old.share new.share share of;
+      number = ap (λ (p : Passing). p.number) done.same;
+      table = done.called.share;
+      parts = ap (λ (s : Sharing). s.parts) share;
+      drawer = ap (λ (s : Sharing). s.drawer) share;
+      free = λ free. record { holds = done.called.holds ∙ free.holds; owes = done.called.owes };
+    }
+kept_by old new at command (Err e) done saw =
+    let sight = saw.seen.seen.same in
+    record {
+      of = λ w of. same_of w old.share new.share saw.seen.same of;
+      number = ap (λ (p : Passing). p.number) saw.same;
+      table = ap (λ s. s.share) sight;
+      parts = ap (λ (s : Sharing). s.parts) saw.seen.same;
+      drawer = ap (λ (s : Sharing). s.drawer) saw.seen.same;
+      free = λ free. record { holds = ap (λ s. s.holds) sight ∙ free.holds; owes = ap (λ s. s.owes) sight ∙ free.owes };
+    }
 
 pub keeps_on : (a b c : Passing) → Keeps a b → Keeps b c → Keeps a c
 keeps_on a b c p q = record {
-  name = q.name ∙ p.name;
+  of = λ w of. q.of w (p.of w of);
   number = q.number ∙ p.number;
-  share = q.share ∙ p.share;
+  table = q.table ∙ p.table;
+  parts = q.parts ∙ p.parts;
+  drawer = q.drawer ∙ p.drawer;
   free = λ free. q.free (p.free free);
 }
 
@@ -45,9 +64,11 @@ one_all o passes rest old new long all split keeps =
     let none : rest ≡ [] = no_others rest (omega (arith, ap length split, length-append rest (old ∷ []))) in
     let was : AreAllPasses o (old ∷ []) = subst (AreAllPasses o) (split ∙ ap (λ l. l ++ old ∷ []) none) all in
     let now : AreAllPasses o (new ∷ []) = record {
-      of = (keeps.name ∙ was.of.0, tt);
+      of = (keeps.of o.words was.of.0, tt);
       free = (keeps.free was.free.0, tt);
       numbers = (omega arith, tt);
-      shares = (let same = keeps.share in let whole = was.shares in omega arith);
+      table = (let same = keeps.table in let whole = was.table in omega arith);
+      parts = λ i lt. (let same = ap (λ ps. (part_at ps i).share) keeps.parts in let whole = was.parts i lt in omega arith);
+      counters = (let same = ap (λ d. d.share) keeps.drawer in let whole = was.counters in omega arith);
     } in
     subst (λ (l : List Passing). AreAllPasses o (l ++ new ∷ [])) (sym none) now

@@ -44,7 +44,7 @@ fn conf(rt: &impl Abort) -> KeyConf {
 
 #[test]
 fn a_removal_lets_its_key_go_and_then_the_peer(rt: HostRuntime) -> Result<(), Fail> {
-    let (ovpn, passes) = Ovpn::new(rt.alloc(), 1)?;
+    let (ovpn, passes) = Ovpn::new(rt.alloc(), 1, 1, ListOf::new(rt.alloc()))?;
     let mut passes = passes.into_vec();
     let Some(mut pass) = passes.pop() else {
         unreachable!()

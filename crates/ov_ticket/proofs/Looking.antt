@@ -16,7 +16,7 @@ use Rattle.ov_model.specs.Removals.{times}
 use Rattle.ov_model.proofs.StepCases.{found_has}
 use Rattle.ov_model.proofs.Times.{times_first}
 use Rattle.ov_model.proofs.KeysTaken.{slot_serials, peer_keys}
-use Rattle.ov_model.proofs.Tallies.{Room, peer_tally, peer_stands, found_stands, found_slots, peer_room, peers_most}
+use Rattle.ov_model.proofs.Tallies.{Room, peer_tally, peer_stands, key_tally, key_stands, found_stands, found_slots, peer_room, key_room, peers_most, keys_most}
 use Rattle.ov_table.specs.Recorded.{Recorded, IsTold}
 
 -- ---- how great serials are
@@ -30,6 +30,17 @@ pub peer_low : (r : Recorded) → IsTold r → (x : ℕ) → 0 < peer_stands x r
 peer_low r told x some = elim (cases_lt x 4096) [
   | inl below ↦ below
   | inr past ↦ absurd (let none = no_peer r told x (omega arith) in omega arith)
+]
+
+pub no_key_there : (r : Recorded) → IsTold r → (x : ℕ) → 65536 ≤ x → key_stands x r.now ≡ 0
+no_key_there r told x past =
+    let few : r.now.keys_made ≤ 65536 = subst (λ (t : Table). t.keys_made ≤ 65536) told.last (keys_most r.journal) in
+    (subst (Room (key_tally x)) told.last (key_room x r.journal told.run)).unmade (omega arith)
+
+pub key_low : (r : Recorded) → IsTold r → (x : ℕ) → 0 < key_stands x r.now → x < 65536
+key_low r told x some = elim (cases_lt x 65536) [
+  | inl below ↦ below
+  | inr past ↦ absurd (let none = no_key_there r told x (omega arith) in omega arith)
 ]
 
 -- ---- what a look-up finds

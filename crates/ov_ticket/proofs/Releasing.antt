@@ -8,22 +8,24 @@ use Rattle.std.proofs.lemmas.List.{map-append}
 use Rattle.ov_base.specs.Sums.{count_of}
 use Rattle.ov_turn.specs.declared.inside.Inside.{Inside}
 use Rattle.ov_turn.specs.Lists.{has, still}
-use Rattle.ov_turn.specs.Insides.{kept_of, seen_in, own_in, owes_in, dying_in, to_link_in, to_unlink_in}
+use Rattle.ov_turn.specs.Insides.{inside_with, kept_of, seen_in, own_in, owes_in, dying_in, to_link_in, to_unlink_in}
 use Rattle.ov_model.specs.declared.act.Call.{Call}
 use Rattle.ov_model.specs.declared.entry.Entry.{Entry}
 use Rattle.ov_model.specs.declared.hold.Owed.{Owed}
 use Rattle.ov_model.specs.declared.hold.Owed.TheVariants as kind
 use Rattle.ov_model.specs.declared.place.Place.{Place}
+use Rattle.ov_model.specs.declared.reply.Reply.{Reply}
 use Rattle.ov_model.specs.Tables.{Peer, Key, Table, serials_of, key_serials}
 use Rattle.ov_model.specs.Step.{step, May, released, key_released}
-use Rattle.ov_model.specs.Events.{Step, release_of, releases}
+use Rattle.ov_model.specs.Events.{Event, Stepped, Step, release_of, releases}
 use Rattle.ov_model.specs.Path.{removed}
 use Rattle.ov_model.specs.Removals.{times}
 use Rattle.ov_model.proofs.Firsts.{is_of}
 use Rattle.ov_model.proofs.Times.{times_first}
 use Rattle.ov_model.proofs.Freed.{Balance, act_balance}
+use Rattle.ov_path.specs.Desks.{stepped_as}
 use Rattle.ov_table.specs.Recorded.{Recorded, entry_of, IsTold}
-use Rattle.ov_table.specs.Cells.{key_cell, dying_cells, made_cells, gone_cells, freed_cells, OwesFreed}
+use Rattle.ov_table.specs.Cells.{key_cell, live_cells, dying_cells, made_cells, gone_cells, freed_cells, OwesFreed}
 use Rattle.ov_table.proofs.Becoming.{cell_shifts, has_is, count_times, other_cell}
 use Rattle.ov_base.proofs.Sums.{total_append}
 use Rattle.ov_ticket.specs.Within.{cell_of, release_call, from_position, entries_of, IsSettled, IsCounted, IsOut, IsReleasing, HasMade}
@@ -52,6 +54,16 @@ pub release_entry : (t : Table) (place : Place) (at : ℕ) (o : Owed) → entry_
 unfolding released key_released
 release_entry t place at (kind.Peer p) = refl
 release_entry t place at (kind.Key k) = refl
+
+-- What a release tells as an event: it takes nothing out of a slot.
+release_event : (t : Table) (place : Place) (at : ℕ) (o : Owed) → stepped_as place (release_call at o) (step t (release_call at o)).reply (step t (release_call at o)).taken ≡ Stepped (release_of place at o)
+unfolding released key_released
+release_event t place at (kind.Peer p) = refl
+release_event t place at (kind.Key k) = refl
+
+pub release_tells : (t : Table) (place : Place) (at : ℕ) (o : Owed) (call : Call) (r : Reply) (taken : List ℕ) (event : Event) → event ≡ stepped_as place call r taken → call ≡ release_call at o → r ≡ (step t call).reply → taken ≡ (step t call).taken → event ≡ Stepped (release_of place at o)
+release_tells t place at o call r taken event tells is says takes =
+    tells ∙ ap (stepped_as place call r) takes ∙ ap (λ (q : Reply). stepped_as place call q (step t call).taken) says ∙ ap (λ (k : Call). stepped_as place k (step t k).reply (step t k).taken) is ∙ release_event t place at o
 
 release_makes : (t : Table) (at : ℕ) (o : Owed) → made_cells (release_call at o).act (step t (release_call at o)).reply ≡ []
 unfolding released key_released
@@ -184,6 +196,23 @@ released_made old new place at o is = record {
   holds = is.holds;
   seen = is.seen ∙ ap (λ e. seen_in old ++ e ∷ []) (release_entry (kept_of old).now place at o);
   own = is.own ∙ ap (λ e. own_in old ++ (length (seen_in old), e) ∷ []) (release_entry (kept_of old).now place at o);
+}
+
+-- A loan of the table that changes nothing.
+pub counted_lent : (old new : Inside Recorded Entry) (place : Place) (call : Call) (w : Recorded) → w ≡ kept_of new → IsCounted old new place call → IsCounted old (inside_with new w) place call
+counted_lent old new place call w same is = record {
+  same = is.same;
+  told = subst IsTold (sym same) is.told;
+  kept = same ∙ is.kept;
+  seen = is.seen;
+  own = is.own;
+  history = ap (λ (k : Recorded). k.journal) same ∙ is.history;
+  live = ap (λ (k : Recorded). live_cells k.now) same ∙ is.live;
+  dying = ap (λ (k : Recorded). dying_cells k.now) same ∙ is.dying;
+  holds = is.holds;
+  owes = is.owes;
+  made = is.made;
+  gone = is.gone;
 }
 
 -- ---- one after another

@@ -10,7 +10,7 @@ use Rattle.std.proofs.lemmas.List.{map-append}
 use Rattle.ov_base.specs.Sums.{count_of}
 use Rattle.ov_turn.specs.declared.inside.Inside.{Inside}
 use Rattle.ov_turn.specs.Lists.{has, still, without}
-use Rattle.ov_turn.specs.Insides.{IsSteady, kept_of, holds_in, owes_in, live_in, to_link_in, to_unlink_in}
+use Rattle.ov_turn.specs.Insides.{IsSteady, inside_with, kept_of, holds_in, owes_in, live_in, to_link_in, to_unlink_in}
 use Rattle.ov_turn.proofs.Members.{has_counted}
 use Rattle.ov_model.specs.declared.act.Act.{Act}
 use Rattle.ov_model.specs.declared.act.Act.TheVariants as act
@@ -27,20 +27,22 @@ use Rattle.ov_model.specs.declared.reply.Reply.{Reply}
 use Rattle.ov_model.specs.declared.reply.Reply.TheVariants as reply
 use Rattle.ov_model.specs.Tables.{Peer, Table, serials_of, key_serials, keys_of}
 use Rattle.ov_model.specs.Step.{Outcome, step, May, may_act, spend, sent, settle, settled_as}
+use Rattle.ov_model.specs.Events.{Event}
 use Rattle.ov_model.specs.Next.{is_killed}
 use Rattle.ov_model.specs.Path.{removed, SomeOwed, spent_taken, spent_reply}
 use Rattle.ov_model.specs.Removals.{times}
 use Rattle.ov_model.proofs.Removing.{Keeps, Spends, spend_spends, tx_look_keeps, rx_look_keeps, keep_look_keeps, sent_keeps, settle_keeps}
 use Rattle.ov_model.proofs.KeysTaken.{keys_serials}
+use Rattle.ov_path.specs.Desks.{stepped_as}
 use Rattle.ov_table.specs.Recorded.{Recorded, IsTold}
 use Rattle.ov_table.specs.Cells.{key_cell, live_cells, dying_cells, made_cells, gone_cells}
 use Rattle.ov_table.proofs.Becoming.{peer_cell, other_cell}
 use Rattle.ov_ticket.specs.Within.{cell_of, IsSettled, IsUntouched, IsCounted, IsAnswered, IsReleasing}
 use Rattle.ov_ticket.specs.Asks.{OwedFits, IsLow, found_cells, got_cells, FoundLow, GotLow, Joined}
 use Rattle.ov_ticket.specs.Asked.{IsReady, IsAsked, MayHold, MayTidy, IsTidied, IsMade, spent_left}
-use Rattle.ov_ticket.proofs.Stepping.{none_has, linked_all}
+use Rattle.ov_ticket.proofs.Stepping.{none_has, linked_all, steady_again}
 use Rattle.ov_ticket.proofs.Settling.{answered, both_all}
-use Rattle.ov_ticket.proofs.Looking.{peer_low, ReplyLives, Looks, tx_looks, rx_looks, keep_looks}
+use Rattle.ov_ticket.proofs.Looking.{peer_low, key_low, ReplyLives, Looks, tx_looks, rx_looks, keep_looks}
 use Rattle.ov_ticket.proofs.Asking.{may_ask, frees_none, owes_stay, all_low}
 
 -- ---- before the step
@@ -274,8 +276,31 @@ other_tidied it new a r held l is steady link unlink holds owes = found_tidied i
 
 -- ---- the step is the seat's entry
 
+-- Nothing happened, and the kept value was lent and came back as it was.
+pub lent_back : (b d : Inside Recorded Entry) (w : Recorded) → IsUntouched b d → w ≡ kept_of d → IsUntouched b (inside_with d w)
+lent_back b d w is same = record {
+  steady = steady_again b d (inside_with d w) is.steady ((refl, refl, refl), same, refl, refl, refl, refl);
+  holds = is.holds;
+  owes = is.owes;
+  link = is.link;
+  unlink = is.unlink;
+}
+
+-- Nothing happened behind it.
+pub tidied_on : (b d e : Inside Recorded Entry) (a : Act) (r : Reply) (l l' : List Owed) → IsTidied b d a r l l' → IsUntouched d e → IsTidied b e a r l l'
+tidied_on b d e a r l l' is same = record {
+  steady = steady_again b d e is.steady same.steady;
+  settled = untouched_settled d e is.settled same;
+  joined = is.joined;
+  joins = is.joins;
+  low = is.low;
+  listed_are = is.listed_are;
+  owes = same.owes ∙ is.owes;
+  holds = same.holds ∙ is.holds;
+}
+
 found_low : (r : Recorded) → IsTold r → (q : Reply) → ReplyLives r.now q → FoundLow q
-found_low r told (reply.Hold h) is = let live = is.peer in peer_low r told h.peer (omega arith)
+found_low r told (reply.Hold h) is = ((let live = is.peer in peer_low r told h.peer (omega arith)), (let live = is.key in key_low r told h.key (omega arith)))
 found_low r told _ is = tt
 
 step_low : (r : Recorded) (at : ℕ) (a : Act) → IsTold r → GotLow a (step r.now (record { at = at; act = a })).reply
@@ -284,8 +309,8 @@ step_low r at (act.RxLook id key_id from) told = found_low r told _ (rx_looks r.
 step_low r at (act.KeepLook peer) told = found_low r told _ (keep_looks r.now _ peer).lives
 step_low r at _ told = tt
 
-pub made : (a b d : Inside Recorded Entry) (place : Place) (call : Call) (r : Reply) (l l' : List Owed) → IsReady a call.act → IsCounted a b place call → r ≡ (step (kept_of a).now call).reply → IsTidied b d call.act r l l' → IsMade a d place call r l l'
-made a b d place call r l l' ready is says tidied =
+pub made : (a b d : Inside Recorded Entry) (place : Place) (call : Call) (r : Reply) (event : Event) (l l' : List Owed) → IsReady a call.act → IsCounted a b place call → r ≡ (step (kept_of a).now call).reply → IsTidied b d call.act r l l' → event ≡ stepped_as place call r (kept_of d).taken → IsMade a d place call r event l l'
+made a b d place call r event l l' ready is says tidied tells =
     let s = ready.settled in
     let may : May (kept_of a).now call = ready_may a call.act ready in
     let steady = tidied.steady in
@@ -298,6 +323,7 @@ made a b d place call r l l' ready is says tidied =
       same = (steady.0.0 ∙ is.same.0, steady.0.1 ∙ is.same.1, steady.0.2 ∙ is.same.2);
       may = may;
       reply = says;
+      event_is = tells ∙ ap (stepped_as place call r) (ap (λ (k : Recorded). k.taken) steady.1 ∙ taken);
       seen = steady.2 ∙ is.seen;
       own = steady.3 ∙ is.own;
       joined = tidied.joined;
@@ -309,8 +335,8 @@ made a b d place call r l l' ready is says tidied =
     }
 
 -- What is listed stays what is owed.
-pub fits_on : (a d : Inside Recorded Entry) (b : Inside Recorded Entry) (place : Place) (call : Call) (r : Reply) (x y : VecDeque Owed Global) → IsMade a d place call r x.items y.items → IsTidied b d call.act r x.items y.items → OwedFits x (owes_in a) → deque_capacity y ≡ deque_capacity x → OwedFits y (owes_in d)
-fits_on a d b place call r x y is tidied fits room = record {
+pub fits_on : (a d : Inside Recorded Entry) (b : Inside Recorded Entry) (place : Place) (call : Call) (r : Reply) (event : Event) (x y : VecDeque Owed Global) → IsMade a d place call r event x.items y.items → IsTidied b d call.act r x.items y.items → OwedFits x (owes_in a) → deque_capacity y ≡ deque_capacity x → OwedFits y (owes_in d)
+fits_on a d b place call r event x y is tidied fits room = record {
   owes_are = is.owes ∙ ap (λ (q : List ℕ). q ++ map cell_of is.joined) fits.owes_are ∙ sym (map-append cell_of x.items is.joined) ∙ ap (map cell_of) (sym is.listed_are);
   low = subst (AllByRecursion IsLow) (sym tidied.listed_are) (both_all IsLow x.items tidied.joined fits.low tidied.low);
   room = (let was = fits.room in omega arith);

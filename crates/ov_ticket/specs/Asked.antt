@@ -18,9 +18,11 @@ use Rattle.ov_model.specs.declared.place.Place.{Place}
 use Rattle.ov_model.specs.declared.reply.HoldView.{HoldView}
 use Rattle.ov_model.specs.declared.reply.Reply.{Reply}
 use Rattle.ov_model.specs.declared.reply.Reply.TheVariants as reply
+use Rattle.ov_model.specs.Events.{Event}
 use Rattle.ov_model.specs.Step.{step, May}
 use Rattle.ov_model.specs.Next.{is_killed}
 use Rattle.ov_model.specs.Path.{spent_taken}
+use Rattle.ov_path.specs.Desks.{stepped_as}
 use Rattle.ov_table.specs.Recorded.{Recorded, entry_of, IsTold}
 use Rattle.ov_table.specs.Cells.{key_cell, live_cells, dying_cells}
 use Rattle.ov_ticket.specs.Within.{cell_of, IsSettled, IsAnswered, HasRoom}
@@ -94,11 +96,12 @@ pub record IsTidied (old new : Inside Recorded Entry) (a : Act) (r : Reply) (lis
   pub holds : holds_in new ≡ holds_in old ++ got_cells a r
 
 -- A step was made, and is the seat's own entry.
-pub record IsMade (old new : Inside Recorded Entry) (place : Place) (call : Call) (r : Reply) (listed listed' : List Owed) : Type 0 where
+pub record IsMade (old new : Inside Recorded Entry) (place : Place) (call : Call) (r : Reply) (event : Event) (listed listed' : List Owed) : Type 0 where
   pub settled : IsSettled new
   pub same : IsSame old new
   pub may : May (kept_of old).now call
   pub reply : r ≡ (step (kept_of old).now call).reply
+  pub event_is : event ≡ stepped_as place call r (step (kept_of old).now call).taken
   pub seen : seen_in new ≡ seen_in old ++ entry_of (kept_of old).now place call ∷ []
   pub own : own_in new ≡ own_in old ++ (length (seen_in old), entry_of (kept_of old).now place call) ∷ []
   pub joined : List Owed

@@ -1,5 +1,5 @@
 -- What a seat asks for under a ticket of its own: which steps it may, what they leave it to hold and to release.
-use Rattle.std.specs.Prelude.{◌≡◌, ⊤, ℕ, ◌<◌, ◌≤◌, List, [], ◌∷◌, map}
+use Rattle.std.specs.Prelude.{◌≡◌, ⊤, ℕ, ◌<◌, ◌≤◌, List, [], ◌∷◌, Option, map}
 use Rattle.std.specs.List.{AllByRecursion}
 use Rattle.std.specs.VecDeque.{deque_capacity}
 use Rattle.std.specs.declared.collections.VecDeque.{VecDeque}
@@ -12,7 +12,9 @@ use Rattle.ov_model.specs.declared.hold.Owed.TheVariants as owed
 use Rattle.ov_model.specs.declared.reply.Reply.{Reply}
 use Rattle.ov_model.specs.declared.reply.Reply.TheVariants as reply
 use Rattle.ov_model.specs.Path.{SomeOwed, removed}
+use Rattle.ov_model.specs.Tables.{Table, Material}
 use Rattle.ov_table.specs.Cells.{key_cell}
+use Rattle.ov_table.specs.Pairs.{pair_in}
 use Rattle.ov_ticket.specs.Within.{cell_of}
 
 -- A peer that is owed has a serial below 4,096: a greater one would name the cell of a key.
@@ -56,6 +58,11 @@ abbrev pub found_cells : Reply → List ℕ
 found_cells (reply.Hold h) = h.peer ∷ key_cell h.key ∷ []
 found_cells _ = []
 
+-- The two directions that are kept after a reply: those of the key that it says is held, or else what was kept.
+abbrev pub found_pair : Table → Reply → Option Material → Option Material
+found_pair t (reply.Hold h) was = pair_in t h.key
+found_pair t _ was = was
+
 -- What a step takes hold of: what its look-up found.
 abbrev pub got_cells : Act → Reply → List ℕ
 got_cells (act.TxLook a) r = found_cells r
@@ -63,12 +70,12 @@ got_cells (act.RxLook id key_id from) r = found_cells r
 got_cells (act.KeepLook peer) r = found_cells r
 got_cells _ r = []
 
--- A peer that a reply says is held may be asked for later.
+-- A peer that a reply says is held may be asked for later, and its key has a counter.
 abbrev pub FoundLow : Reply → Type 0
-FoundLow (reply.Hold h) = h.peer < 4096
+FoundLow (reply.Hold h) = (h.peer < 4096) × (h.key < 65536)
 FoundLow _ = ⊤
 
--- The peer that a look-up found.
+-- The peer and the key that a look-up found.
 abbrev pub GotLow : Act → Reply → Type 0
 GotLow (act.TxLook a) r = FoundLow r
 GotLow (act.RxLook id key_id from) r = FoundLow r

@@ -10,9 +10,10 @@ use Rattle.ov_model.specs.declared.hold.Owed.{Owed}
 use Rattle.ov_model.specs.declared.place.Place.{Place}
 use Rattle.ov_model.specs.declared.reply.Reply.{Reply}
 use Rattle.ov_model.specs.Step.{step, May}
-use Rattle.ov_model.specs.Events.{release_of}
+use Rattle.ov_model.specs.Events.{Event, Stepped, release_of}
 use Rattle.ov_model.specs.Path.{SomeOwed, removed}
 use Rattle.ov_model.specs.Runs.{IsRun, last_table}
+use Rattle.ov_path.specs.Desks.{stepped_as}
 use Rattle.ov_table.specs.Recorded.{entry_of}
 use Rattle.ov_ticket.specs.Within.{cell_of, release_call, from_position, entries_of, made_by}
 use Rattle.ov_ticket.specs.Asks.{got_cells, GotLow, Joined}
@@ -44,14 +45,15 @@ pub record HasSeen (old new : Sight Entry) : Type 0 where
 
 -- A step was made at some place, under a ticket of its own. At its entry the history was `before`, which begins with what the
 -- seat had seen: the reply is the serial table's there. What the seat has seen now is `before` and this entry, which is its
--- own, once more. It holds what a look-up found, and owes the releases `joined` that the step leaves to it, which are
+-- own, once more, and the event tells it. It holds what a look-up found, and owes the releases `joined` that the step leaves to it, which are
 -- listed behind the others.
-pub record StepAt (old new : Sight Entry) (place : Place) (call : Call) (r : Reply) (listed listed' : List Owed) : Type 0 where
+pub record StepAt (old new : Sight Entry) (place : Place) (call : Call) (r : Reply) (event : Event) (listed listed' : List Owed) : Type 0 where
   pub before : List Entry
   pub front : IsPrefix old.seen before
   pub run : IsRun before
   pub may : May (last_table before) call
   pub reply : r ≡ (step (last_table before) call).reply
+  pub event_is : event ≡ stepped_as place call r (step (last_table before) call).taken
   pub joined : List Owed
   pub joins : Joined call.act r (step (last_table before) call).taken joined
   pub listed_are : listed' ≡ listed ++ joined
@@ -63,13 +65,14 @@ pub record StepAt (old new : Sight Entry) (place : Place) (call : Call) (r : Rep
   pub low : GotLow call.act r
 
 -- The release that is listed first was made at some place, under a ticket of its own, and is listed and owed no more.
-pub record ReleasedAt (old new : Sight Entry) (place : Place) (at : ℕ) (listed listed' : List Owed) : Type 0 where
+pub record ReleasedAt (old new : Sight Entry) (place : Place) (at : ℕ) (event : Event) (listed listed' : List Owed) : Type 0 where
   pub first : Owed
   pub listed_was : listed ≡ first ∷ listed'
   pub before : List Entry
   pub front : IsPrefix old.seen before
   pub run : IsRun before
   pub may : May (last_table before) (release_call at first)
+  pub event_is : event ≡ Stepped (release_of place at first)
   pub seen : new.seen ≡ before ++ (release_of place at first).entry ∷ []
   pub own : new.own ≡ old.own ++ (length before, (release_of place at first).entry) ∷ []
   pub share : new.share ≡ old.share

@@ -4,17 +4,20 @@ ghost use Rattle.std.specs.Prelude.{◌≡◌, ◌<◌, [], ◌∷◌, ◌++◌,
 ghost use Rattle.std.specs.VecDeque.{deque_capacity};
 ghost use Rattle.ov_base.specs.Sums.{count_of};
 ghost use Rattle.ov_turn.specs.Lists.{has, without};
-ghost use Rattle.ov_turn.specs.Insides.{IsSteady, cells_in, holds_in, owes_in, to_link_in, to_unlink_in};
+ghost use Rattle.ov_turn.specs.Insides.{IsSteady, kept_of, cells_in, holds_in, owes_in, to_link_in, to_unlink_in};
 ghost use Rattle.ov_model.specs.declared.reply.Reply.TheVariants as replies;
+ghost use Rattle.ov_past.specs.Pasts.{event_of};
 ghost use Rattle.ov_table.specs.Cells.{key_cell};
 ghost use Rattle.ov_ticket.specs.Within.{IsSettled, IsUntouched};
-ghost use Rattle.ov_ticket.specs.Asks.{OwedFits, found_cells, got_cells};
+ghost use Rattle.ov_ticket.specs.Asks.{OwedFits, found_cells, found_pair, got_cells};
 ghost use Rattle.ov_ticket.specs.Asked.{IsReady, spent_left, CanHold, MayHold, MayTidy, IsTidied, IsMade};
 
 use crate::within::{count, settle};
 use ov_base::Memory;
 use ov_hold::{Held, get, unlink};
+use ov_keys::KeyPair;
 use ov_model::{Act, Call, HoldView, Owed, Place, Reply};
+use ov_past::Happening;
 use ov_table::{KEY_CELLS, Table};
 use ov_turn::Inside;
 use std::collections::VecDeque;
@@ -99,25 +102,42 @@ fn tidy(
     }
 }
 
-/// Makes a step of the table, any but a release. `Err` is want of memory: then nothing changed.
+/// Keeps a copy of the two directions of a key that a look-up found, so that its use needs no ticket.
+fn keep_pair(inside: &mut Inside<'_, Table>, reply: &Reply, pair: &mut Option<KeyPair>)
+    ensures same { IsUntouched inside.old inside.new }
+    ensures kept { kept_of inside.new ≡ kept_of inside.old }
+    ensures pair { pair.new ≡ found_pair (kept_of inside.old).now reply.now pair.old }
+{
+    if let Reply::Hold(view) = reply {
+        *pair = inside.kept().pair(view.key).copied();
+    }
+}
+
+/// Makes a step of the table, any but a release, and tells it as an event. `Err` is want of memory: then nothing changed.
 pub(crate) fn make(
     inside: &mut Inside<'_, Table>,
     place: Place,
     call: &Call,
     held: &mut Held,
     owed: &mut VecDeque<Owed>,
-) -> Result<Reply, Memory>
+    pair: &mut Option<KeyPair>,
+) -> Result<(Reply, Happening), Memory>
     requires ready { IsReady inside.old call.now.act }
     requires held { held.old ≡ holds_in inside.old }
     requires owed { OwedFits owed.old (owes_in inside.old) }
-    ensures ok { IfOk result (λ r. IsMade inside.old inside.new place call.now r owed.old.items owed.new.items) }
+    ensures ok { IfOk result (λ r.
+        IsMade inside.old inside.new place call.now r.0 (event_of r.1) owed.old.items owed.new.items) }
     ensures err { OnErr result (IsUntouched inside.old inside.new) }
     ensures settled { IsSettled inside.new }
     ensures kept { OnErr result (owed.new.items ≡ owed.old.items) }
     ensures held { held.new ≡ holds_in inside.new }
     ensures owed { OwedFits owed.new (owes_in inside.new) }
+    ensures pair { IfOk result (λ r. pair.new ≡ found_pair (kept_of inside.new).now r.0 pair.old) }
+    ensures kept_pair { OnErr result (pair.new ≡ pair.old) }
 {
     let reply = count(inside, place, call)?;
     tidy(inside, &call.act, &reply, held, owed);
-    Ok(reply)
+    keep_pair(inside, &reply, pair);
+    let event = Happening::stepped(place, call, &reply, inside.kept());
+    Ok((reply, event))
 }

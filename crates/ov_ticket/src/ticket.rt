@@ -1,10 +1,12 @@
 //! Calls at the table, each under a ticket of its own.
 ghost use Rattle.std.specs.Prelude.{◌≡◌, ◌<◌, [], IfOk, OnErr};
 ghost use Rattle.std.specs.VecDeque.{deque_len};
-ghost use Rattle.ov_turn.specs.Seats.{IsSeatOf, cells_of, holds_of, owes_of, sight_of};
+ghost use Rattle.ov_turn.specs.Seats.{IsSeatOf, cells_of, holds_of, owes_of, seen_of, sight_of};
 ghost use Rattle.ov_turn.specs.Insides.{IsIn};
 ghost use Rattle.ov_ticket.specs.Within.{HasRoom};
-ghost use Rattle.ov_ticket.specs.Asks.{OwedFits, MayAsk};
+ghost use Rattle.ov_model.specs.Runs.{last_table};
+ghost use Rattle.ov_ticket.specs.Asks.{OwedFits, MayAsk, found_pair};
+ghost use Rattle.ov_past.specs.Pasts.{event_of};
 ghost use Rattle.ov_ticket.specs.Asked.{IsEntered};
 ghost use Rattle.ov_ticket.specs.Tickets.{IsCalled, HasSeen, StepAt, ReleasedAt};
 
@@ -12,7 +14,9 @@ use crate::asked::make;
 use crate::within::{release_one, serve};
 use ov_base::Memory;
 use ov_hold::Held;
+use ov_keys::KeyPair;
 use ov_model::{Call, Command, Owed, Place, Reply};
+use ov_past::Happening;
 use ov_table::Table;
 use ov_turn::{Inside, LockSeat, TicketLock};
 use std::collections::VecDeque;
@@ -62,7 +66,8 @@ fn enter<'a, R: Wait>(
 /// Takes the lock, makes one step of the table, any but a release, and leaves. A look-up takes the holds on what it found,
 /// which go into `held`. What the step took out and nobody holds is listed in `owed`, the keys before the peers, each kind
 /// in its order: the seat owes its release. A key that is spent is held by the seat, so it is owed only once it is given
-/// back. `Err` is want of memory: then nothing was made, though more may have been seen.
+/// back. The two directions of a key that a look-up found are copied into `pair`, under the same ticket. The step is also told
+/// as an event. `Err` is want of memory: then nothing was made, though more may have been seen.
 pub fn step_once<R: Wait>(
     rt: &R,
     lock: &TicketLock<Table>,
@@ -71,7 +76,8 @@ pub fn step_once<R: Wait>(
     call: &Call,
     held: &mut Held,
     owed: &mut VecDeque<Owed>,
-) -> (LockSeat<Table>, Result<Reply, Memory>)
+    pair: &mut Option<KeyPair>,
+) -> (LockSeat<Table>, Result<(Reply, Happening), Memory>)
     requires seat { IsSeatOf lock.now seat }
     requires cells { cells_of lock.now ≡ 69632 }
     requires asks { MayAsk (holds_of seat) (owes_of seat) call.now.act }
@@ -79,18 +85,22 @@ pub fn step_once<R: Wait>(
     requires owed { OwedFits owed.old (owes_of seat) }
     ensures lock { IsSeatOf lock.entry.now result.0 }
     ensures ok { IfOk result.1 (λ r.
-        StepAt (sight_of seat) (sight_of result.0) place call.now r owed.old.items owed.new.items) }
+        StepAt (sight_of seat) (sight_of result.0) place call.now r.0 (event_of r.1) owed.old.items
+        owed.new.items) }
     ensures err { OnErr result.1 (HasSeen (sight_of seat) (sight_of result.0)) }
     ensures kept { OnErr result.1 (owed.new.items ≡ owed.old.items) }
     ensures held { held.new ≡ holds_of result.0 }
     ensures owed { OwedFits owed.new (owes_of result.0) }
+    ensures pair { IfOk result.1 (λ r.
+        pair.new ≡ found_pair (last_table (seen_of result.0)) r.0 pair.old) }
+    ensures kept_pair { OnErr result.1 (pair.new ≡ pair.old) }
 {
     let mut inside = enter(rt, lock, seat);
-    let reply = make(&mut inside, place, call, held, owed);
+    let reply = make(&mut inside, place, call, held, owed, pair);
     (inside.leave(), reply)
 }
 
-/// Takes the lock, makes the release that is listed first, and leaves.
+/// Takes the lock, makes the release that is listed first, and leaves. It is also told as an event.
 pub fn release_once<R: Wait>(
     rt: &R,
     lock: &TicketLock<Table>,
@@ -98,19 +108,20 @@ pub fn release_once<R: Wait>(
     place: Place,
     at: u32,
     owed: &mut VecDeque<Owed>,
-) -> LockSeat<Table>
+) -> (LockSeat<Table>, Happening)
     requires seat { IsSeatOf lock.now seat }
     requires cells { cells_of lock.now ≡ 69632 }
     requires owed { OwedFits owed.old (owes_of seat) }
     requires some { 0 < deque_len owed.old }
-    ensures lock { IsSeatOf lock.entry.now result }
-    ensures released { ReleasedAt (sight_of seat) (sight_of result) place at owed.old.items owed.new.items }
-    ensures owed { OwedFits owed.new (owes_of result) }
+    ensures lock { IsSeatOf lock.entry.now result.0 }
+    ensures released { ReleasedAt (sight_of seat) (sight_of result.0) place at (event_of result.1)
+        owed.old.items owed.new.items }
+    ensures owed { OwedFits owed.new (owes_of result.0) }
 {
     let Some(first) = owed.pop_front() else {
         unreachable!()
     };
     let mut inside = enter(rt, lock, seat);
-    release_one(&mut inside, place, at, first);
-    inside.leave()
+    let event = release_one(&mut inside, place, at, first);
+    (inside.leave(), event)
 }

@@ -13,12 +13,14 @@ ghost use Rattle.ov_model.specs.declared.hold.Owed.TheVariants as kind;
 ghost use Rattle.ov_ticket.specs.Within as spec;
 ghost use Rattle.ov_ticket.specs.Within.{IsSettled, IsUntouched, IsCounted, OwesOne, IsUnlinked, MayUnlink, IsReleasing, HasMade, IsAnswered, HasRoom, IsServed, cell_of, cell_list, entries_of};
 ghost use Rattle.ov_model.specs.declared.hold.Owed.{Owed};
-ghost use Rattle.ov_model.specs.Events.{release_of, releases};
+ghost use Rattle.ov_model.specs.Events.{Stepped, release_of, releases};
+ghost use Rattle.ov_past.specs.Pasts.{event_of};
 ghost use Rattle.ov_model.specs.Path.{SomeOwed, removed};
 
 use ov_base::Memory;
 use ov_hold::{link, unlink};
 use ov_model::{Act, Call, Command, Given, Owed, Place, Reply};
+use ov_past::Happening;
 use ov_table::{KEY_CELLS, Table};
 use ov_turn::Inside;
 use std::collections::VecDeque;
@@ -129,17 +131,24 @@ fn release_call(at: u32, owed: Owed) -> Call
     }
 }
 
-/// Releases the first that the seat owes.
-pub(crate) fn release_one(inside: &mut Inside<'_, Table>, place: Place, at: u32, owed: Owed)
+/// Releases the first that the seat owes, and tells it as an event.
+pub(crate) fn release_one(
+    inside: &mut Inside<'_, Table>,
+    place: Place,
+    at: u32,
+    owed: Owed,
+) -> Happening
     requires { (rest : List Owed) × IsReleasing (owed ∷ rest) inside.old }
     ensures releasing { (rest : List Owed) → IsReleasing (owed ∷ rest) inside.old → IsReleasing rest inside.new }
     ensures made { HasMade ((release_of place at owed).entry ∷ []) inside.old inside.new }
     ensures settled { IsSettled inside.new }
+    ensures event { event_of result ≡ Stepped (release_of place at owed) }
 {
     let call = release_call(at, owed);
-    let Ok(_reply) = count(inside, place, &call) else {
+    let Ok(reply) = count(inside, place, &call) else {
         unreachable!()
     };
+    Happening::stepped(place, &call, &reply, inside.kept())
 }
 
 /// Releases all that the seat owes, in order, and takes it off the list.
@@ -160,7 +169,7 @@ pub(crate) fn release_all(
         let Some(one) = owed.pop_front() else {
             unreachable!()
         };
-        release_one(inside, place, at, one);
+        let _event = release_one(inside, place, at, one);
     }
 }
 

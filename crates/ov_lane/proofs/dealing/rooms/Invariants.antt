@@ -6,5 +6,5 @@ use Rattle.ov_lane.proofs.dealing.rooms.Given as goal
 abbrev pub invariant-loop-number : goal.invariant-loop-number
 invariant-loop-number l = record {
   long : length l.rooms.items ≡ l._number;
-  each : AllByRecursion HasRoom l.rooms.items;
+  each : AllByRecursion (λ r. HasRoom r.0) l.rooms.items;
 }

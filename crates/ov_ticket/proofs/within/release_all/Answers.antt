@@ -15,8 +15,8 @@ loop-done-init c = record {
   capacity = refl;
 }
 
-pub release_one-requires : goal.release_one-requires
-release_one-requires c =
+pub release_one-event-requires : goal.release_one-event-requires
+release_one-event-requires c =
     let rest : List Owed = c.pop_front.new.self.items in
     let first : c.loop-done.owed.items ≡ c.in-Some.one ∷ rest = popped c.loop-done.owed.items rest c.pop_front.result c.in-Some.one c.pop_front.ensures.items c.in-Some.is in
     (rest, subst (λ (l : List Owed). IsReleasing l c.loop-done.inside) first c.loop-done.invariant.releasing)
@@ -31,8 +31,8 @@ loop-done-preserved c =
       left = (let was = i.left in let fewer = ap length first in omega arith);
       gone = i.gone ++ one ∷ [];
       split = i.split ∙ ap (λ (l : List Owed). i.gone ++ l) first ∙ sym (append_assoc i.gone (one ∷ []) rest);
-      releasing = c.release_one.ensures.releasing rest (subst (λ (l : List Owed). IsReleasing l c.loop-done.inside) first i.releasing);
-      made = releases_more c.args.inside.now c.loop-done.inside c.release_one.new.inside c.args.place c.args.at i.gone one i.made c.release_one.ensures.made;
+      releasing = c.release_one-event.ensures.releasing rest (subst (λ (l : List Owed). IsReleasing l c.loop-done.inside) first i.releasing);
+      made = releases_more c.args.inside.now c.loop-done.inside c.release_one-event.new.inside c.args.place c.args.at i.gone one i.made c.release_one-event.ensures.made;
       capacity = c.pop_front.ensures.capacity ∙ i.capacity;
     }
 

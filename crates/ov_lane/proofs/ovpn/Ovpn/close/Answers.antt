@@ -1,25 +1,22 @@
-use Rattle.std.proofs.Common.{List, sym, subst}
-use Rattle.ov_turn.specs.Lists.{IsWhole}
-use Rattle.ov_turn.specs.Seats.{seen_of, own_of, holds_of, owes_of}
-use Rattle.ov_model.specs.declared.entry.Entry.{Entry}
-use Rattle.ov_lane.specs.Passes.{Passing}
+use Rattle.std.proofs.Common.{◌≡◌, ◌∙◌, sym, ap, subst, arith, List, ℕ}
+use Rattle.std.specs.Prelude.{length}
+use Rattle.ov_share.specs.Shares.{IsWholeShare}
+use Rattle.ov_share.specs.Passings.{Passing}
 use Rattle.ov_lane.specs.Inner.{HasTaken}
-use Rattle.ov_lane.proofs.Gathering.{one_history, last_releases}
+use Rattle.ov_lane.proofs.Gathering.{one_history, last_releases, all_passes_some, whole_share}
 use Rattle.ov_lane.proofs.ovpn.Ovpn.close.Goals as goal
-use mathlib.Core.List.{IsPrefix}
+
+pub gather-whole-requires-clause-some : goal.gather-whole-requires-clause-some
+gather-whole-requires-clause-some c = subst (λ (ps : List Passing). 0 < length ps) (sym c.into_vec.ensures) (all_passes_some c.self.now c.args.passes c.requires)
+
+pub end-requires-clause-whole : goal.end-requires-clause-whole
+end-requires-clause-whole c = whole_share _ c.args.passes c.gather-whole.result c.requires (subst (λ (ps : List Passing). HasTaken c.self.inside.words ps c.gather-whole.result) c.into_vec.ensures c.gather-whole.ensures)
 
 pub returns-clause-history : goal.returns-clause-history
 returns-clause-history c =
-    let told = c.finish-journal.ensures.told in
-    let journal = c.finish-journal.ensures.journal in
-    let seat = c.gather-whole.result in
-    one_history c.self.inside.lock seat c.args.passes c.finish-journal.result.0 c.finish-journal.result.1 told.run told.notes
-    (subst (λ (ps : List Passing). HasTaken c.self.inside.lock ps seat) c.into_vec.ensures c.gather-whole.ensures)
-    (subst (λ (l : List Entry). IsPrefix (seen_of seat) l) (sym journal) c.close-table.ensures.seen)
-    (subst (λ (l : List Entry). IsWhole l (own_of seat)) (sym journal) c.close-table.ensures.own)
+    one_history c.self.inside.words c.args.passes c.gather-whole.result _ _ _
+    (subst (λ (ps : List Passing). HasTaken c.self.inside.words ps c.gather-whole.result) c.into_vec.ensures c.gather-whole.ensures)
+    c.end.ensures
 
 pub returns-clause-releases : goal.returns-clause-releases
-returns-clause-releases c =
-    let told = c.finish-journal.ensures.told in
-    let seat = c.gather-whole.result in
-    last_releases c.finish-journal.result.0 c.close-table.result.now (holds_of seat) (owes_of seat) told.run told.last c.gather-whole.ensures.holds c.gather-whole.ensures.owes c.close-table.ensures.cells
+returns-clause-releases c = let e = c.end.ensures in last_releases _ e.run e.released

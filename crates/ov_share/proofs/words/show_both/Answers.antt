@@ -2,8 +2,8 @@ use Rattle.std.proofs.Common.{◌≡◌, List, sym, subst, ◌∙◌, inl, inr}
 use mathlib.Core.List.{IsPrefix}
 use Rattle.ov_turn.specs.Seats.{seen_of}
 use Rattle.ov_model.specs.declared.entry.Entry.{Entry}
-use Rattle.ov_lane.proofs.Ordering.{prefix_both}
-use Rattle.ov_lane.proofs.dealing.show_both.Goals as goal
+use Rattle.ov_share.proofs.Fronts.{prefix_both}
+use Rattle.ov_share.proofs.words.show_both.Goals as goal
 
 pub returns-clause-same : goal.returns-clause-same
 returns-clause-same c =
