@@ -45,6 +45,7 @@ pub record Stayed (old new : Sitting) : Type 0 where
   pub same : new ≡ record old { share = new.share }
   pub saw : SawMore old.share new.share
 
+-- Where nothing was even tried, all stays.
 pub stayed_itself : (d : Sitting) → Stayed d d
 stayed_itself d = record {
   same = refl;

@@ -42,9 +42,11 @@ impl<'a, R: Wait> Model for LaneDesk<'a, R> {
 
     ghost Value = { Sitting };
 
-    ghost view = { λ d. sitting d.words.now d.routes.now d.share d.past (holding d.hold) d.owed.items };
+    ghost view = { λ d.
+        sitting d.words.now d.routes.now d.share d.past (holding d.hold) d.owed.items };
 
-    ghost invariant = { λ d. IsSeated d.words.now d.routes.now d.share d.past (holding d.hold) d.held d.pair d.owed };
+    ghost invariant = { λ d.
+        IsSeated d.words.now d.routes.now d.share d.past (holding d.hold) d.held d.pair d.owed };
 }
 
 impl<'a, R: Wait> LaneDesk<'a, R> {
