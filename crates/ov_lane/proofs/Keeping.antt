@@ -54,7 +54,7 @@ keeps_on a b c p q = record {
   free = λ free. q.free (p.free free);
 }
 
-no_others : (l : List Passing) → length l ≡ 0 → l ≡ []
+pub no_others : (l : List Passing) → length l ≡ 0 → l ≡ []
 no_others [] e = refl
 no_others (p ∷ l) e = absurd (omega arith)
 
