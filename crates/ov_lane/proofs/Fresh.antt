@@ -1,10 +1,8 @@
 -- Passes are made: each is cut off what is left, and their shares and the rest's add up.
-use Rattle.std.proofs.Common.{ℕ, suc, ◌≡◌, ◌+◌, ◌*◌, ◌<◌, ◌≤◌, List, [], ◌∷◌, ◌++◌, length, length-append, refl, sym, ap, ◌∙◌, subst, arith}
+use Rattle.std.proofs.Common.{ℕ, suc, ◌≡◌, ◌+◌, ◌<◌, ◌≤◌, List, [], ◌∷◌, ◌++◌, length, length-append, refl, ap, ◌∙◌, subst, arith}
 use Rattle.std.specs.Prelude.{map}
 use Rattle.std.specs.List.{AllByRecursion}
-use Rattle.ov_base.specs.Sums.{total}
 use Rattle.ov_base.proofs.Sums.{total_append}
-use Rattle.ov_model.specs.Limits.{shard_count}
 use Rattle.ov_model.specs.Own.{RiseFrom}
 use Rattle.ov_replay.specs.Desk.{part_at}
 use Rattle.ov_share.specs.Shares.{Common, Sharing, IsShareOf, IsBlank, HasEnough, IsCutOff}

@@ -1,14 +1,13 @@
 -- What a call keeps of a pass, and a table with one pass.
-use Rattle.std.proofs.Common.{◌≡◌, ◌<◌, ℕ, List, [], ◌∷◌, ◌++◌, length, length-append, refl, sym, ap, ◌∙◌, subst, arith, Ok, Err}
+use Rattle.std.proofs.Common.{◌≡◌, ℕ, List, [], ◌∷◌, ◌++◌, length, length-append, refl, sym, ap, ◌∙◌, subst, arith, Ok, Err}
 use Rattle.std.specs.Prelude.{Result, IfOk, OnErr}
 use Rattle.ov_base.specs.declared.memory.Memory.{Memory}
 use Rattle.ov_model.specs.declared.command.Command.{Command}
 use Rattle.ov_model.specs.declared.reply.Reply.{Reply}
-use Rattle.ov_model.specs.Limits.{shard_count}
 use Rattle.ov_replay.specs.Desk.{part_at}
 use Rattle.ov_share.specs.Shares.{Common, Sharing, IsShareOf}
 use Rattle.ov_share.specs.Passings.{Passing}
-use Rattle.ov_lane.specs.Passes.{Shared, IsPassOf, IsFree, AreAllPasses, CallDone, OnlySaw}
+use Rattle.ov_lane.specs.Passes.{Shared, IsFree, AreAllPasses, CallDone, OnlySaw}
 
 -- A call keeps whose the pass is, its number and its shares, and a pass that holds nothing.
 pub record Keeps (old new : Passing) : Type 0 where
@@ -54,7 +53,7 @@ keeps_on a b c p q = record {
   free = λ free. q.free (p.free free);
 }
 
-no_others : (l : List Passing) → length l ≡ 0 → l ≡ []
+pub no_others : (l : List Passing) → length l ≡ 0 → l ≡ []
 no_others [] e = refl
 no_others (p ∷ l) e = absurd (omega arith)
 

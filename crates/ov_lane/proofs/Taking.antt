@@ -1,11 +1,11 @@
 -- A pass is taken in: of all named entries its own are those with its number.
-use Rattle.std.proofs.Common.{ℕ, zero, suc, ◌≡◌, ◌≢◌, ◌+◌, ◌<◌, ◌≤◌, List, [], ◌∷◌, ◌++◌, refl, sym, ap, ◌∙◌, subst, arith, inl, inr, true, false, if◌then◌else◌, ◌==◌, append-nil}
+use Rattle.std.proofs.Common.{ℕ, suc, ◌≡◌, ◌≢◌, ◌+◌, ◌<◌, ◌≤◌, List, [], ◌∷◌, ◌++◌, refl, sym, ap, ◌∙◌, subst, arith, inl, inr, true, false, if◌then◌else◌, ◌==◌, append-nil}
 use Rattle.std.specs.Prelude.{map, filter, Contains}
 use Rattle.std.specs.List.{AllByRecursion}
 use Rattle.std.proofs.lemmas.Bool.{cases_eq, eq-eqb, ne_eqb}
 use Rattle.std.proofs.lemmas.List.Elements.{filter-append, Contains-append_left, Contains-append_right}
 use mathlib.Core.List.{IsPrefix}
-use Rattle.ov_base.specs.Sums.{total, count_of}
+use Rattle.ov_base.specs.Sums.{count_of}
 use Rattle.ov_base.proofs.Sums.{total_append}
 use Rattle.ov_draw.specs.Drawer as draws
 use Rattle.ov_turn.proofs.Fronts.{prefix_self, prefix_more}

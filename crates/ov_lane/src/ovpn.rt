@@ -73,7 +73,8 @@ impl Ovpn {
         ensures history { OneHistory self.words.counters.first result.journal result.notes result.shards passes }
         ensures releases { LastReleases result.journal }
     {
-        let Ovpn { words, .. } = self;
+        let Ovpn { words, routes } = self;
+        drop(routes);
         let whole = gather(&words, passes.into_vec());
         let Ending {
             journal,

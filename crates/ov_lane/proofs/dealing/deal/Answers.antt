@@ -4,7 +4,7 @@ use Rattle.std.specs.Option.{option_to_list}
 use Rattle.ov_ticket.specs.Within.{HasRoom}
 use Rattle.ov_lane.specs.Inner.{HaveShares, are_fresh}
 use Rattle.ov_share.specs.Passings.{Passing}
-use Rattle.ov_lane.proofs.Fresh.{rest_enough, rest_cut, cut_nothing, dealt, shares_more, all_front, all_within}
+use Rattle.ov_lane.proofs.Fresh.{rest_enough, rest_cut, cut_nothing, dealt, shares_more, all_front}
 use Rattle.ov_lane.proofs.dealing.deal.Goals as goal
 
 pub loop-number-init : goal.loop-number-init

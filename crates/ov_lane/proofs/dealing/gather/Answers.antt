@@ -6,6 +6,8 @@ use Rattle.ov_model.specs.Own.{RiseFrom}
 use Rattle.ov_share.specs.Shares.{IsShareOf}
 use Rattle.ov_share.specs.Passings.{Passing}
 use Rattle.ov_lane.specs.Passes.{IsFree}
+use Rattle.ov_lane.specs.Inner.{HasTaken}
+use Rattle.ov_lane.proofs.Keeping.{no_others}
 use Rattle.ov_lane.proofs.Taking.{taken_one, taken_more}
 use Rattle.ov_lane.proofs.Fresh.{all_within}
 use Rattle.ov_lane.proofs.dealing.gather.Goals as goal
@@ -67,4 +69,5 @@ loop-taken-preserved c =
 pub returns : goal.returns
 returns c =
     let i = c.loop-taken.invariant in
-    ?
+    let none : c.loop-taken.passes.items ≡ [] = no_others c.loop-taken.passes.items (let left = i.left in let test = c.loop-taken-test.false in omega arith) in
+    subst (λ (l : List Passing). HasTaken c.args.words.now l c.loop-taken.whole) (sym (i.split ∙ ap (λ (l : List Passing). l ++ i.taken) none)) i.has

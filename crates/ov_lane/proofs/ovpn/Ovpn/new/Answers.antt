@@ -1,4 +1,4 @@
-use Rattle.std.proofs.Common.{◌≡◌, ◌+◌, ◌-◌, ◌++◌, ◌∷◌, [], ℕ, List, length, refl, sym, ap, subst, ◌∙◌, arith}
+use Rattle.std.proofs.Common.{◌≡◌, ◌-◌, ◌++◌, ◌∷◌, [], ℕ, List, sym, ap, subst, ◌∙◌, arith}
 use Rattle.ov_share.specs.Passings.{Passing}
 use Rattle.ov_lane.specs.Passes.{Shared, AreFresh, AreAllPasses}
 use Rattle.ov_lane.proofs.Fresh.{rest_new, all_dealt, new_fresh, new_all}
