@@ -1,5 +1,5 @@
 -- A lane's desk over the shared words: what it shows to the line that stands at it, and what each event makes of it.
-use Rattle.std.specs.Prelude.{◌≡◌, ⊤, ℕ, List, [], ◌∷◌, refl}
+use Rattle.std.specs.Prelude.{◌≡◌, ⊤, ℕ, List, [], ◌∷◌}
 use Rattle.std.specs.List.{AllByRecursion}
 use Rattle.ov_model.specs.declared.line.Route.{Route}
 use Rattle.ov_model.specs.declared.hold.Owed.{Owed}
@@ -12,7 +12,6 @@ use Rattle.ov_path.specs.Desks.{Holding, NoHold, HoldsKey, LeftPeer, View, Did}
 use Rattle.ov_path.specs.Walks.{IsOwn}
 use Rattle.ov_share.specs.Shares.{Common, Sharing, IsFree}
 use Rattle.ov_share.specs.Makings.{Makes, SawMore}
-use Rattle.ov_turn.proofs.Fronts.{prefix_self}
 
 -- The words at which the lane stands, the script's routes, the lane's share, and its line under way: the events, what it
 -- holds, and the releases that it owes.
@@ -44,18 +43,6 @@ pub record Happened (old : Sitting) (e : Event) (new : Sitting) : Type 0 where
 pub record Stayed (old new : Sitting) : Type 0 where
   pub same : new ≡ record old { share = new.share }
   pub saw : SawMore old.share new.share
-
--- Where nothing was even tried, all stays.
-pub stayed_itself : (d : Sitting) → Stayed d d
-stayed_itself d = record {
-  same = refl;
-  saw = record {
-    table = record { front = prefix_self d.share.sight.seen; same = refl };
-    shards = λ i. record { front = prefix_self _; same = refl };
-    drawer = refl;
-    name = refl;
-  };
-}
 
 -- The desk before a line, or after one whose events are forgotten.
 abbrev pub at_rest : Common → List Route → Sharing → Sitting

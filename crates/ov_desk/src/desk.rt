@@ -115,7 +115,9 @@ impl<'a, R: Wait> LaneDesk<'a, R> {
 }
 
 impl<'a, R: Wait> Desk for LaneDesk<'a, R> {
-    ghost use Rattle.ov_desk.specs.Sittings.{shown_of, Happened, Stayed, stayed_itself};
+    ghost use Rattle.std.proofs.Common.{refl};
+    ghost use Rattle.ov_turn.proofs.Fronts.{prefix_self};
+    ghost use Rattle.ov_desk.specs.Sittings.{shown_of, Happened, Stayed};
 
     ghost view = { λ d. shown_of d };
 
@@ -123,7 +125,7 @@ impl<'a, R: Wait> Desk for LaneDesk<'a, R> {
 
     ghost keeps = { λ d e. Stayed d e };
 
-    ghost keeps_itself = { λ d. stayed_itself d };
+    ghost keeps_itself = { λ d. record { same = refl; saw = record { table = record { front = prefix_self d.share.sight.seen; same = refl }; shards = λ i. record { front = prefix_self _; same = refl }; drawer = refl; name = refl } } };
 
     fn table(&mut self, place: Place, call: &Call) -> Result<Reply, Memory> {
         let (reply, event) = self.words.step(
