@@ -1,0 +1,6 @@
+-- Lanes that are done, each by a pass of its own, make together a legal report.
+pub mod Together
+-- The entries of the head's lines come first, where each stands in its turn.
+pub mod Heads
+-- The head's lines, one after the other, and the lines behind it.
+pub mod Running
