@@ -49,8 +49,8 @@ pub record IsFrom (lane first : ℕ) (place : Place) : Type 0 where
   pub lane_is : place.lane ≡ lane
   pub from : first ≤ place.line
 
--- The lines of a list were run, one after the other: all of them are answered, or the first ones, and then one was stopped by
--- want of memory.
+-- The lines of a list were run, one after the other, and answers stand behind those before. Where all were run, each has its
+-- answer; else there was no memory, for a line or for the room of its answer, and nothing is said of the answers.
 pub record LinesRan (lane first : ℕ) (lines : List Line) (old new : Sitting) (before after : List Answer) (all : Bool) : Type 0 where
   pub more : List Answer
   pub answers : after ≡ before ++ more
