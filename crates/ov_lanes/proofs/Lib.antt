@@ -4,3 +4,9 @@ pub mod Together
 pub mod Heads
 -- The head's lines, one after the other, and the lines behind it.
 pub mod Running
+-- What a lane's next line, and all its lines, leave of it.
+pub mod Working
+-- Lines are dealt to their lanes, and lanes are put together and taken apart.
+pub mod Placing
+-- Lanes meet, the head's lines run, and then all others.
+pub mod Meeting

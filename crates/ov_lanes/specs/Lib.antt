@@ -1,2 +1,6 @@
 pub mod Threads
 pub mod Heads
+pub mod Jobs
+pub mod Inner
+pub mod Dealt
+pub mod Rans

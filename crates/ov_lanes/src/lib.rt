@@ -1,4 +1,8 @@
-//! Lanes on threads: what lanes that are done, each by a pass of its own, have made together.
+//! Lanes on threads: a script's lines, each lane on a thread of its own, and the report of all.
 #![tactic(auto)]
 
+mod job;
 pub mod laws;
+mod run;
+
+pub use run::{Ran, gather, run_lanes};

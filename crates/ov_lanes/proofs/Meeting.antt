@@ -1,0 +1,1 @@
+-- Lanes meet, the head's lines run, and then all others.
