@@ -6,6 +6,8 @@ pub mod Heads
 pub mod Running
 -- What a lane's next line, and all its lines, leave of it.
 pub mod Working
+-- Lanes that ran some of their lines, or saw more, are at work as before.
+pub mod Keeping
 -- Lines are dealt to their lanes, and lanes are put together and taken apart.
 pub mod Placing
 -- Lanes meet, the head's lines run, and then all others.
