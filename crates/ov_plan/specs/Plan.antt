@@ -4,7 +4,7 @@ use Rattle.std.specs.List.{AllByRecursion, join_with_byte}
 use Rattle.clap.specs.Words.{Row, fault_of, first_of, matches_of}
 use Rattle.ov_plan.specs.Command.{command, number_of}
 use Rattle.ov_plan.specs.declared.words.Mode.{Mode}
-use Rattle.ov_plan.specs.declared.words.Mode.TheVariants.{Trace, Steps, Make}
+use Rattle.ov_plan.specs.declared.words.Mode.TheVariants.{Trace, Steps, Lanes, Make, Load}
 use Rattle.ov_plan.specs.declared.words.RunPlan.{RunPlan}
 
 -- A text is the decimal number of one of the 64 lanes.
@@ -26,7 +26,9 @@ HasSchedule text = (lanes : List ℕ) × IsSchedule text lanes
 abbrev pub mode_name : Mode → List ℕ
 mode_name Trace = codes "trace"
 mode_name Steps = codes "steps"
+mode_name Lanes = codes "lanes"
 mode_name Make = codes "make"
+mode_name Load = codes "load"
 
 -- MODE is the mode's word in the matches.
 abbrev pub IsMode : List Row → Mode → Type 0
@@ -57,6 +59,10 @@ pub record IsPlan (words : List (List ℕ)) (plan : RunPlan) : Type 0 where
 -- The word that words have as MODE, and the empty one where they have none.
 abbrev pub mode_word : List (List ℕ) → List ℕ
 mode_word words = unwrap_or (first_of (codes "mode") (matches_of command words)) []
+
+-- How many lanes words give by their option.
+abbrev pub lanes_given : List (List ℕ) → ℕ
+lanes_given words = number_of (codes "lanes") 4 (matches_of command words)
 
 -- Words are those of a plan.
 abbrev pub HasPlan : List (List ℕ) → Type 0

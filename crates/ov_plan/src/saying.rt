@@ -63,20 +63,24 @@ Modes:
   trace  each line runs to its end, in the order of the script
   steps  the lanes take turns by --schedule, an event each; behind it each lane
          in turn runs to its end
+  lanes  each lane runs on a thread of its own, behind the first --head lines,
+         which run in the order of the script
   make   a script is made from --seed and --count and run as by trace; nothing
          is read, and the report's last line alone is written, the summary
+  load   the same script, run as by lanes on 8 lanes with a head of 256 lines
 
 Options, which every mode reads and holds to their ranges:
-  --first-id N      in trace and steps, the first packet id of every key,
-                    1 to 4294967295 (1)
+  --first-id N      in trace, steps and lanes, the first packet id of every
+                    key, 1 to 4294967295 (1)
   --schedule LANES  in steps, the lanes that take the first turns: numbers from
                     0 to 63, joined by commas (none)
-  --lanes N         1 to 64 (4); no mode uses it yet
-  --head N          0 to 262144 (0); no mode uses it yet
-  --seed N          in make, what keys and packets are made from,
+  --lanes N         in lanes, how many lanes run, 1 to 64 (4)
+  --head N          in lanes, how many lines run before the others,
+                    0 to 262144 (0)
+  --seed N          in make and load, what keys and packets are made from,
                     0 to 4294967295 (1)
-  --count N         in make, how many packets and datagrams there are,
-                    1 to 100000 (1000)
+  --count N         in make and load, how many packets and datagrams there
+                    are, 1 to 100000 (1000)
   --turns N         1 to 4294967295 (1000); no mode uses it yet
   --port N          1 to 65344 (1194); no mode uses it yet
 The default stands in brackets.

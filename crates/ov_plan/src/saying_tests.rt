@@ -83,7 +83,9 @@ fn the_help_names_each_mode_and_each_status(rt: HostRuntime) {
     for row in [
         "\n  trace  ",
         "\n  steps  ",
+        "\n  lanes  ",
         "\n  make   ",
+        "\n  load   ",
         "\n  0  ",
         "\n  1  ",
         "\n  2  ",

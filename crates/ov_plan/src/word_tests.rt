@@ -83,7 +83,9 @@ impl Range {
     fn holds(&self, rt: &impl Abort, alloc: Global) {
         self.holds_in(rt, alloc, "trace");
         self.holds_in(rt, alloc, "steps");
+        self.holds_in(rt, alloc, "lanes");
         self.holds_in(rt, alloc, "make");
+        self.holds_in(rt, alloc, "load");
         for text in ["", "x", "1.5", "0x10", " 1", "1 "] {
             is_usage(rt, alloc, &["trace", self.option, text]);
         }
@@ -192,6 +194,9 @@ fn another_first_word_is_no_mode(rt: HostRuntime) {
         "Make",
         "mak",
         "made",
+        "Lanes",
+        "lane",
+        "serve",
         "--trace",
         "-t",
         "--",
@@ -286,4 +291,15 @@ fn a_made_script_has_the_seed_and_the_count_of_the_words(rt: HostRuntime) {
         0,
         100_000,
     );
+}
+
+#[test]
+fn lanes_on_threads_have_their_number_and_head(rt: HostRuntime) {
+    let plan = plan_of(&rt, rt.alloc(), &["lanes", "--lanes", "8", "--head", "9"]);
+    assert_eq!(rt; plan.mode, Mode::Lanes);
+    assert_eq!(rt; plan.lanes, 8);
+    assert_eq!(rt; plan.head, 9);
+    let load = plan_of(&rt, rt.alloc(), &["load", "--count", "4"]);
+    assert_eq!(rt; load.mode, Mode::Load);
+    assert_eq!(rt; load.count, 4);
 }

@@ -20,25 +20,29 @@ pub enum Mode {
     Trace,
     /// The lanes take turns, by a schedule.
     Steps,
+    /// Each lane's lines on a thread of its own, behind the head, whose lines run first, in the script's order.
+    Lanes,
     /// The script is made from a seed and a count, and nothing is read: each line to its end, in the script's order.
     Make,
+    /// The script is made as by `Make`, and run as by `Lanes`, on 8 lanes and with a head of 256 lines.
+    Load,
 }
 
 /// What a run is to do. An option that the mode doesn't use has no effect.
 #[derive(Debug, Drop)]
 pub struct RunPlan {
     pub mode: Mode,
-    /// How many lanes run, from 1 to 64. No mode uses it.
+    /// How many lanes run, from 1 to 64. `Lanes` alone uses it.
     pub lanes: u32,
-    /// How many lines run before the others, from 0 to 262144. No mode uses it.
+    /// How many lines run before the others, from 0 to 262144. `Lanes` alone uses it.
     pub head: u32,
-    /// The packet id that the counter of each key begins at, from 1. `Make` doesn't use it.
+    /// The packet id that the counter of each key begins at, from 1. `Make` and `Load` don't use it.
     pub first_id: u32,
     /// The lanes that take the first turns, each from 0 to 63. `Steps` alone uses them.
     pub schedule: ListOf<u32>,
-    /// The seed that a script is made from. `Make` alone uses it.
+    /// The seed that a script is made from. `Make` and `Load` alone use it.
     pub seed: u32,
-    /// How many lines a made script has behind its head, from 1 to 100000. `Make` alone uses it.
+    /// How many lines a made script has behind its head, from 1 to 100000. `Make` and `Load` alone use it.
     pub count: u32,
     /// How many turns a lane makes over a link, from 1. No mode uses it.
     pub turns: u32,
@@ -66,8 +70,12 @@ fn mode_named(name: &str) -> Option<Mode>
         Some(Mode::Trace)
     } else if name == "steps" {
         Some(Mode::Steps)
+    } else if name == "lanes" {
+        Some(Mode::Lanes)
     } else if name == "make" {
         Some(Mode::Make)
+    } else if name == "load" {
+        Some(Mode::Load)
     } else {
         None
     }
@@ -98,8 +106,8 @@ fn schedule_of(alloc: Global, matches: &ArgMatches<'_>) -> Result<ListOf<u32>, P
     }
 }
 
-/// The plan of the words behind the program's name: MODE, which is `trace`, `steps` or `make`, and options, each
-/// given once at most and with one value. All options are read and held to their ranges in every mode.
+/// The plan of the words behind the program's name: MODE, which is `trace`, `steps`, `lanes`, `make` or `load`, and
+/// options, each given once at most and with one value. All options are read and held to their ranges in every mode.
 ///
 /// | Option | Range | Default |
 /// |---|---|---|

@@ -1,6 +1,6 @@
 -- What the program promises of one run. A clause on the bytes that were read, or on the script that they
 -- are, holds where the source tells what it holds; one on the bytes that were written, where the sink does.
-use Rattle.std.specs.Prelude.{None, ℕ, ◌+◌, ◌<◌, ◌≡◌, ◌⊎◌, List, [], length, Option, Some, ⊤, Bool, true, false, if◌then◌else◌}
+use Rattle.std.specs.Prelude.{None, ℕ, ◌+◌, ◌<◌, ◌≡◌, ◌⊎◌, List, [], length, Option, Some, ⊤, Bool, true, false, ◌||◌, if◌then◌else◌}
 use Rattle.std.specs.List.{AllByRecursion}
 use Rattle.std.specs.Io.KnownBytes.{Appends, IsAtEnd, Keeps}
 use Rattle.std.specs.Str.{bytes_eq}
@@ -13,9 +13,10 @@ use Rattle.ov_model.specs.Legal.{Legal}
 use Rattle.ov_model.specs.Via.{via_of}
 use Rattle.ov_core.specs.Sessions.{Serial, Scheduled}
 use Rattle.ov_plan.specs.declared.words.Mode.{Mode}
-use Rattle.ov_plan.specs.declared.words.Mode.TheVariants.{Trace, Steps, Make}
+use Rattle.ov_plan.specs.declared.words.Mode.TheVariants.{Trace, Steps, Lanes, Make, Load}
 use Rattle.ov_plan.specs.declared.words.RunPlan.{RunPlan}
-use Rattle.ov_plan.specs.Plan.{IsPlan, mode_name, mode_word}
+use Rattle.ov_plan.specs.Plan.{IsPlan, lanes_given, mode_name, mode_word}
+use Rattle.ov_lanes.specs.Threads.{HeadFirst}
 use Rattle.ov_made.specs.Made.{made}
 use Rattle.ov_script.specs.Reading.{Gave, IsScript, HasNoStop, Early, Stop, Event, bad_line, passed, cut, whole_lines, CountsTo}
 use Rattle.ov_script.specs.declared.script.ReadStop.{ReadStop}
@@ -26,9 +27,16 @@ use Rattle.ov_run.specs.declared.ended.Cause.{Cause}
 use Rattle.ov_run.specs.declared.ended.Cause.TheVariants as cause
 use Rattle.ov_run.specs.declared.ended.Ended.{Ended}
 
--- The number of lanes: a line's lane is below it, and a report has a log for each.
+-- The number of lanes where lines run on one thread: a line's lane is below it, and a report has a log for each.
 abbrev pub lanes_read : ℕ
 lanes_read = 64
+
+-- The number of lanes on which a made script runs, each on a thread of its own, and how many of its lines run before.
+abbrev pub load_lanes : ℕ
+load_lanes = 8
+
+abbrev pub load_head : ℕ
+load_head = 256
 
 -- How the events that stop a script are answered.
 abbrev pub cause_of : Event → Cause
@@ -60,38 +68,79 @@ IsStop cause.Memory = ⊥
 abbrev pub makes : Mode → Bool
 makes Trace = false
 makes Steps = false
+makes Lanes = false
 makes Make = true
+makes Load = true
 
--- Whether words ask for a script that is made: MODE is the word of the mode that makes its script.
+-- Whether words ask for a script that is made: MODE is the word of a mode that makes its script.
 abbrev pub is_made : List (List ℕ) → Bool
-is_made words = bytes_eq (mode_word words) (mode_name Make)
+is_made words = bytes_eq (mode_word words) (mode_name Make) || bytes_eq (mode_word words) (mode_name Load)
+
+-- Whether a mode runs its lines on one thread.
+abbrev pub is_serial : Mode → Bool
+is_serial Trace = true
+is_serial Steps = true
+is_serial Lanes = false
+is_serial Make = true
+is_serial Load = false
+
+-- How many lanes a mode has, whose option says so many: each line's lane is below it, and its report has a log for each.
+abbrev pub lanes_in : Mode → ℕ → ℕ
+lanes_in Trace lanes = lanes_read
+lanes_in Steps lanes = lanes_read
+lanes_in Lanes lanes = lanes
+lanes_in Make lanes = lanes_read
+lanes_in Load lanes = load_lanes
+
+-- How many lanes a plan has.
+abbrev pub lanes_of : RunPlan → ℕ
+lanes_of plan = lanes_in plan.mode plan.lanes
+
+-- How many lanes the lines of a script may name that words ask to be read: those of the option where MODE is lanes, else 64.
+abbrev pub lanes_asked : List (List ℕ) → ℕ
+lanes_asked words = if bytes_eq (mode_word words) (mode_name Lanes) then lanes_given words else lanes_read
 
 -- The first packet id of every key in a mode: the words', and 1 where the script is made.
 abbrev pub first_in : Mode → ℕ → ℕ
 first_in Trace first = first
 first_in Steps first = first
+first_in Lanes first = first
 first_in Make first = 1
+first_in Load first = 1
 
 -- The first packet id of every key by a plan.
 abbrev pub first_id : RunPlan → ℕ
 first_id plan = first_in plan.mode plan.first_id
 
--- The report of a mode.
-abbrev pub RunsIn : Mode → ℕ → List ℕ → Script → Report → Type 0
-RunsIn Trace first schedule script report = Serial (via_of script.routes) script first report
-RunsIn Steps first schedule script report = Scheduled (via_of script.routes) script first schedule report
-RunsIn Make first schedule script report = Serial (via_of script.routes) script first report
+-- The report of a mode. On threads nothing is said of the order of lanes but that the head comes first.
+abbrev pub RunsIn : Mode → ℕ → List ℕ → ℕ → Script → Report → Type 0
+RunsIn Trace first schedule head script report = Serial (via_of script.routes) script first report
+RunsIn Steps first schedule head script report = Scheduled (via_of script.routes) script first schedule report
+RunsIn Lanes first schedule head script report = HeadFirst script head report
+RunsIn Make first schedule head script report = Serial (via_of script.routes) script first report
+RunsIn Load first schedule head script report = HeadFirst script load_head report
+
+-- No line of these logs came from a link, and no link refused a part.
+abbrev pub ArePlain : List LaneLog → Type 0
+ArePlain logs = AllByRecursion (λ log. (log.recorded ≡ 0) × (log.unsent ≡ [])) logs
+
+-- A report of lanes on threads: it is legal, its head comes first, it has a log for each lane, and nothing came from links.
+pub record Threaded (script : Script) (first lanes head : ℕ) (report : Report) : Type 0 where
+  pub legal : Legal script first report
+  pub headed : HeadFirst script head report
+  pub count : length report.lanes ≡ lanes
+  pub plain : ArePlain report.lanes
 
 -- The report is that of the plan's mode: each line to its end in the script's order, or by the plan's
--- schedule. The first packet id of every key is the plan's, or 1 where the script is made, and the routes are the
--- script's.
+-- schedule, or each lane on a thread of its own, behind the head. The first packet id of every key is the plan's, or 1 where
+-- the script is made, and the routes are the script's.
 abbrev pub Runs : RunPlan → Script → Report → Type 0
-Runs plan script report = RunsIn plan.mode (first_id plan) plan.schedule script report
+Runs plan script report = RunsIn plan.mode (first_id plan) plan.schedule plan.head script report
 
--- The script of the bytes that were read.
-pub record Read (taken : List ℕ) (script : Script) : Type 0 where
-  pub no_stop : HasNoStop taken lanes_read
-  pub is_script : IsScript taken lanes_read script
+-- The script of the bytes that were read, whose lines name so many lanes.
+pub record Read (lanes : ℕ) (taken : List ℕ) (script : Script) : Type 0 where
+  pub no_stop : HasNoStop taken lanes
+  pub is_script : IsScript taken lanes script
 
 -- A lane's log of a run without links: each line has its answer, none came from a link, and no link refused
 -- a part.
@@ -102,22 +151,24 @@ pub record Answered (log : LaneLog) : Type 0 where
 
 -- A script that was read: the source is at its end, and where it tells what it holds, the script is that of what
 -- it gave.
-pub record IsRead (before now : Option (List ℕ)) (script : Script) : Type 0 where
+pub record IsRead (lanes : ℕ) (before now : Option (List ℕ)) (script : Script) : Type 0 where
   pub ended : IsAtEnd now
-  pub read : (taken : List ℕ) → Gave before now taken → (now ≡ Some []) × Read taken script
+  pub read : (taken : List ℕ) → Gave before now taken → (now ≡ Some []) × Read lanes taken script
 
 -- Where the script of a mode comes from: it was read, or it is made from a seed and a count, and the source has
 -- what it had.
-abbrev pub IsGivenIn : Mode → ℕ → ℕ → Option (List ℕ) → Option (List ℕ) → Script → Type 0
-IsGivenIn Trace seed count before now script = IsRead before now script
-IsGivenIn Steps seed count before now script = IsRead before now script
-IsGivenIn Make seed count before now script = (script ≡ made seed count) × (now ≡ before)
+abbrev pub IsGivenIn : Mode → ℕ → ℕ → ℕ → Option (List ℕ) → Option (List ℕ) → Script → Type 0
+IsGivenIn Trace lanes seed count before now script = IsRead lanes before now script
+IsGivenIn Steps lanes seed count before now script = IsRead lanes before now script
+IsGivenIn Lanes lanes seed count before now script = IsRead lanes before now script
+IsGivenIn Make lanes seed count before now script = (script ≡ made seed count) × (now ≡ before)
+IsGivenIn Load lanes seed count before now script = (script ≡ made seed count) × (now ≡ before)
 
 -- The script is that of the plan's mode: the one that was read, or the one of the plan's seed and count.
 abbrev pub IsGiven : RunPlan → Option (List ℕ) → Option (List ℕ) → Script → Type 0
-IsGiven plan before now script = IsGivenIn plan.mode plan.seed plan.count before now script
+IsGiven plan before now script = IsGivenIn plan.mode (lanes_of plan) plan.seed plan.count before now script
 
--- A report: it is that of the words' plan and of a script, legal for it, and has 64 lanes, each of whose lines
+-- A report: it is that of the words' plan and of a script, legal for it, and has the plan's lanes, each of whose lines
 -- has its answer. The script is the one that was read, or, by the plan's mode, the one that its seed and its count
 -- stand for.
 pub record Reported (words : List (List ℕ)) (before now : Option (List ℕ)) (report : Report) : Type 0 where
@@ -126,7 +177,7 @@ pub record Reported (words : List (List ℕ)) (before now : Option (List ℕ)) (
   pub script : Script
   pub runs : Runs plan script report
   pub legal : Legal script (first_id plan) report
-  pub lanes : length report.lanes ≡ lanes_read
+  pub lanes : length report.lanes ≡ lanes_of plan
   pub answered : AllByRecursion Answered report.lanes
   pub given : IsGiven plan before now script
 
@@ -148,8 +199,8 @@ pub record WrotePart (was_made : Bool) (before now : Option (List ℕ)) (report 
 
 -- Where a stop came from: the bytes that were read show it while the source may go on, or the source is
 -- at its end and all its bytes have it.
-abbrev pub ComesFrom : Option (List ℕ) → Option (List ℕ) → Event → Type 0
-ComesFrom before now event = (taken : List ℕ) → Gave before now taken → Early taken lanes_read event ⊎ ((now ≡ Some []) × Stop taken lanes_read event)
+abbrev pub ComesFrom : ℕ → Option (List ℕ) → Option (List ℕ) → Event → Type 0
+ComesFrom lanes before now event = (taken : List ℕ) → Gave before now taken → Early taken lanes event ⊎ ((now ≡ Some []) × Stop taken lanes event)
 
 -- What was written where memory was wanting: nothing before there was a report, and then a part of its
 -- text, from the front and not to the end, which is nothing of a text that fills no page.
@@ -181,11 +232,11 @@ CountedRun taken good (Some report) = good ≡ length (whole_lines taken)
 -- How many lines were taken and found good, by the cause: all lines where the script was run, those before
 -- a bad one, those that were ended where a read failed, those that were ended before a limit was passed, and
 -- none where nothing was read.
-abbrev pub Counted : List ℕ → ℕ → Option Report → Cause → Type 0
-Counted taken good report cause.Fine = good ≡ length (whole_lines taken)
-Counted taken good report cause.WriteFault = good ≡ length (whole_lines taken)
-Counted taken good report cause.Memory = CountedRun taken good report
-Counted taken good report cause.Usage = good ≡ 0
-Counted taken good report (cause.BadLine n) = n ≡ good + 1
-Counted taken good report (cause.Limit l) = CountsTo lanes_read taken l good
-Counted taken good report cause.ReadFault = good ≡ length (cut taken).ended
+abbrev pub Counted : ℕ → List ℕ → ℕ → Option Report → Cause → Type 0
+Counted lanes taken good report cause.Fine = good ≡ length (whole_lines taken)
+Counted lanes taken good report cause.WriteFault = good ≡ length (whole_lines taken)
+Counted lanes taken good report cause.Memory = CountedRun taken good report
+Counted lanes taken good report cause.Usage = good ≡ 0
+Counted lanes taken good report (cause.BadLine n) = n ≡ good + 1
+Counted lanes taken good report (cause.Limit l) = CountsTo lanes taken l good
+Counted lanes taken good report cause.ReadFault = good ≡ length (cut taken).ended

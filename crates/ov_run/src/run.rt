@@ -1,6 +1,6 @@
 //! The top call: words, script, run, report. The script is read, or made from the words' seed and count.
 
-ghost use Rattle.std.specs.Prelude.{◌≡◌, ◌≢◌, ◌<◌, ◌⊎◌, ℕ, List, None, length, map, string_bytes, true, false, IfOk, IfSome};
+ghost use Rattle.std.specs.Prelude.{◌≡◌, ◌≢◌, ◌<◌, ◌⊎◌, ℕ, List, None, Ok, length, map, string_bytes, true, false, IfOk, IfSome};
 ghost use Rattle.std.specs.Io.KnownBytes.{IsAtEnd};
 ghost use Rattle.std.specs.List.{AllByRecursion};
 ghost use Rattle.ov_base.specs.Outside.{Rose};
@@ -10,7 +10,8 @@ ghost use Rattle.ov_made.specs.Made as script_made;
 ghost use Rattle.ov_script.specs.Reading as reading;
 ghost use Rattle.ov_run.specs.declared.ended.Cause.TheVariants as cause;
 ghost use Rattle.ov_run.specs.Clauses as spec;
-ghost use Rattle.ov_plan.specs.Plan.{HasPlan};
+ghost use Rattle.ov_plan.specs.declared.words.RunPlan.{RunPlan};
+ghost use Rattle.ov_plan.specs.Plan.{HasPlan, IsPlan};
 
 use crate::ended::{Cause, Ended};
 use crate::written::write_report;
@@ -23,14 +24,14 @@ use ov_report::PrintStop;
 use ov_script::{ReadStop, Reading, read_script};
 use std::alloc::Global;
 
-/// The number of lanes: a line's lane is below it, and a report has a log for each.
+/// The number of lanes on one thread: a line's lane is below it, and a report has a log for each.
 const LANES: u32 = 64;
 
 /// The first packet id of each key of a script that is made.
-const MADE_FIRST_ID: u32 = 1;
+pub(crate) const MADE_FIRST_ID: u32 = 1;
 
 /// The cause of a stop.
-fn cause_of(stop: ReadStop) -> Cause
+pub(crate) fn cause_of(stop: ReadStop) -> Cause
     ensures { result ≡ spec.cause_of_stop stop }
 {
     match stop {
@@ -41,43 +42,39 @@ fn cause_of(stop: ReadStop) -> Cause
     }
 }
 
-/// The report of a script by its plan.
+/// The report of a script by a plan whose lines run on one thread.
 fn report_of(alloc: Global, plan: RunPlan, script: Script) -> Result<Report, Memory>
     requires fits { AllByRecursion (λ line. Fits line.deed) script.lines }
     requires lanes { AllByRecursion (λ line. line.lane < spec.lanes_read) script.lines }
     requires schedule { AllByRecursion (λ lane. lane < spec.lanes_read) plan.schedule }
+    requires serial { spec.is_serial plan.mode ≡ true }
     ensures ran { IfOk result (spec.Runs plan script) }
     ensures legal { IfOk result (Legal script (spec.first_id plan)) }
-    ensures lanes { IfOk result (λ report. length report.lanes ≡ spec.lanes_read) }
+    ensures lanes { IfOk result (λ report. length report.lanes ≡ spec.lanes_of plan) }
 {
     match plan.mode {
         Mode::Trace => run_serially(alloc, script, plan.first_id),
         Mode::Steps => run_schedule(alloc, script, plan.first_id, plan.schedule.as_slice()),
         Mode::Make => run_serially(alloc, script, MADE_FIRST_ID),
+        Mode::Lanes | Mode::Load => unreachable!(),
     }
 }
 
-/// Runs a script that was read whole or made, and writes what its mode tells of the report.
-fn ran<K: Sink>(
+/// How a run ends that has its script: what its mode tells of the report is written, if there is one.
+pub(crate) fn ended_by<K: Sink>(
     alloc: Global,
-    plan: RunPlan,
-    script: Script,
+    mode: Mode,
     read_lines: u64,
+    report: Result<Report, Memory>,
     sink: &mut K,
 ) -> Ended
-    requires fits { AllByRecursion (λ line. Fits line.deed) script.lines }
-    requires lanes { AllByRecursion (λ line. line.lane < spec.lanes_read) script.lines }
-    requires schedule { AllByRecursion (λ lane. lane < spec.lanes_read) plan.schedule }
     ensures lines { result.read_lines ≡ read_lines }
-    ensures cause { spec.Ran (spec.makes plan.mode) (K.written sink.old) (K.written sink.new)
+    ensures cause { spec.Ran (spec.makes mode) (K.written sink.old) (K.written sink.new)
         (K.faults sink.old) (K.faults sink.new) result }
     ensures kept { result.cause ≡ cause.Fine → K.faults sink.new ≡ K.faults sink.old }
-    ensures ran { IfSome result.report (spec.Runs plan script) }
-    ensures legal { IfSome result.report (Legal script (spec.first_id plan)) }
-    ensures lanes { IfSome result.report (λ report. length report.lanes ≡ spec.lanes_read) }
+    ensures report { IfSome result.report (λ r. report ≡ Ok r) }
 {
-    let mode = plan.mode;
-    let Ok(report) = report_of(alloc, plan, script) else {
+    let Ok(report) = report else {
         return Ended {
             cause: Cause::Memory,
             read_lines,
@@ -98,9 +95,35 @@ fn ran<K: Sink>(
     }
 }
 
+/// Runs a script that was read whole or made on one thread, and writes what its mode tells of the report.
+fn ran<K: Sink>(
+    alloc: Global,
+    plan: RunPlan,
+    script: Script,
+    read_lines: u64,
+    sink: &mut K,
+) -> Ended
+    requires fits { AllByRecursion (λ line. Fits line.deed) script.lines }
+    requires lanes { AllByRecursion (λ line. line.lane < spec.lanes_read) script.lines }
+    requires schedule { AllByRecursion (λ lane. lane < spec.lanes_read) plan.schedule }
+    requires serial { spec.is_serial plan.mode ≡ true }
+    ensures lines { result.read_lines ≡ read_lines }
+    ensures cause { spec.Ran (spec.makes plan.mode) (K.written sink.old) (K.written sink.new)
+        (K.faults sink.old) (K.faults sink.new) result }
+    ensures kept { result.cause ≡ cause.Fine → K.faults sink.new ≡ K.faults sink.old }
+    ensures ran { IfSome result.report (spec.Runs plan script) }
+    ensures legal { IfSome result.report (Legal script (spec.first_id plan)) }
+    ensures lanes { IfSome result.report (λ report. length report.lanes ≡ spec.lanes_of plan) }
+{
+    let mode = plan.mode;
+    let report = report_of(alloc, plan, script);
+    ended_by(alloc, mode, read_lines, report, sink)
+}
+
 /// Makes the script of a plan's seed and count, runs it, and writes what its mode tells. Nothing is read.
 fn made_ran<K: Sink>(alloc: Global, plan: RunPlan, sink: &mut K) -> Ended
     requires schedule { AllByRecursion (λ lane. lane < spec.lanes_read) plan.schedule }
+    requires serial { spec.is_serial plan.mode ≡ true }
     ensures lines { result.read_lines ≡ 0 }
     ensures cause { spec.Ran (spec.makes plan.mode) (K.written sink.old) (K.written sink.new)
         (K.faults sink.old) (K.faults sink.new) result }
@@ -108,7 +131,7 @@ fn made_ran<K: Sink>(alloc: Global, plan: RunPlan, sink: &mut K) -> Ended
     ensures ran { IfSome result.report (spec.Runs plan (script_made.made plan.seed plan.count)) }
     ensures legal { IfSome result.report
         (Legal (script_made.made plan.seed plan.count) (spec.first_id plan)) }
-    ensures lanes { IfSome result.report (λ report. length report.lanes ≡ spec.lanes_read) }
+    ensures lanes { IfSome result.report (λ report. length report.lanes ≡ spec.lanes_of plan) }
 {
     match made(alloc, plan.seed, plan.count) {
         Ok(script) => ran(alloc, plan, script, 0, sink),
@@ -116,8 +139,8 @@ fn made_ran<K: Sink>(alloc: Global, plan: RunPlan, sink: &mut K) -> Ended
     }
 }
 
-/// One run of the program: reads the words, then the whole script, runs it, and writes the report.
-/// Nothing is written before the script was read to its end and found good.
+/// One run of the program on one thread: reads the words, then the whole script, runs it, and writes the report.
+/// Nothing is written before the script was read to its end and found good. It waits for nobody.
 ///
 /// `words` are the words after the program's name. The answer's cause is `Usage` exactly where they are those of
 /// no plan (see `plan`), or `Memory`: `trace` runs each line to its end, and `steps` lets the lanes take turns by
@@ -129,6 +152,10 @@ pub fn run_serial<S: Source, K: Sink>(
     source: &mut S,
     sink: &mut K,
 ) -> Ended
+    // The words have no plan, or one whose mode runs its lines on one thread.
+    requires serial { (plan : RunPlan) → IsPlan (map string_bytes words.now) plan →
+        spec.is_serial plan.mode ≡ true }
+
     // Usage: only where the words aren't a plan. Where they aren't, it is answered, or want of memory, and
     // nothing is read, run or written.
     ensures usage { result.cause ≡ cause.Usage → ¬ (HasPlan (map string_bytes words.now)) }
@@ -153,7 +180,7 @@ pub fn run_serial<S: Source, K: Sink>(
     // is run or written. Conversely, what the bytes stop at is told, or want of memory: always where they
     // show it while the source may go on, and else where no read failed.
     ensures stops { (event : reading.Event) → result.cause ≡ spec.cause_of event →
-        spec.ComesFrom (S.left source.old) (S.left source.new) event }
+        spec.ComesFrom spec.lanes_read (S.left source.old) (S.left source.new) event }
     ensures read_fault { result.cause ≡ cause.ReadFault →
         Rose (S.faults source.old) (S.faults source.new) }
     ensures early { (event : reading.Event) → (taken : List ℕ) →
@@ -188,7 +215,7 @@ pub fn run_serial<S: Source, K: Sink>(
         reading.AreGood spec.lanes_read (reading.counted_lines taken) result.read_lines }
     ensures counted { (taken : List ℕ) →
         reading.Gave (S.left source.old) (S.left source.new) taken →
-        spec.Counted taken result.read_lines result.report result.cause }
+        spec.Counted spec.lanes_read taken result.read_lines result.report result.cause }
 {
     let plan = match plan(alloc, words) {
         Ok(plan) => plan,

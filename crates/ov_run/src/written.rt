@@ -50,7 +50,7 @@ pub fn write_report<K: Sink>(
     ensures kept { OnOk result (K.faults sink.new ≡ K.faults sink.old) }
 {
     match mode {
-        Mode::Trace | Mode::Steps => print_report(alloc, report, sink),
-        Mode::Make => write_summary(alloc, report, sink),
+        Mode::Trace | Mode::Steps | Mode::Lanes => print_report(alloc, report, sink),
+        Mode::Make | Mode::Load => write_summary(alloc, report, sink),
     }
 }

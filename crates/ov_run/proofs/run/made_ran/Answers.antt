@@ -10,6 +10,7 @@ use Rattle.ov_run.proofs.run.made_ran.Goals as goal
 
 pub ran-requires : goal.ran-requires
 ran-requires g c = record {
+  serial = c.requires.serial;
   fits = c.in-Ok.ensures.fits;
   lanes = all_weaker (λ (line : Line). line.lane < 8) (λ (line : Line). line.lane < lanes_read) (λ line below. omega (arith, below)) c.in-Ok.script.lines c.in-Ok.ensures.lanes;
   schedule = c.requires.schedule;

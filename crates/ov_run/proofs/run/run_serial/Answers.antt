@@ -1,11 +1,11 @@
 -- The script was read whole, or made, and run: its report is legal. Where nothing was read, there is no stop to tell.
-use Rattle.std.proofs.Common.{[], refl, sym, ◌∙◌}
+use Rattle.std.proofs.Common.{[], refl, sym, ap, ◌∙◌}
 use Rattle.std.proofs.KnownBytes.{Consumes-nil}
 use Rattle.ov_script.proofs.Judging.{early_stops, gave_some, none_given}
 use Rattle.ov_script.specs.Reading.{counted_lines}
 use Rattle.ov_made.specs.Made.{made}
-use Rattle.ov_run.specs.Clauses.{lanes_read}
-use Rattle.ov_run.proofs.Reporting.{reported, was_given, was_made, asked, wrote_part, all_counted, none_counted, stop_counted, stop_named, cause_told, was_read}
+use Rattle.ov_run.specs.Clauses.{lanes_read, makes}
+use Rattle.ov_run.proofs.Reporting.{serial_plain, of_serial, reads, reported, was_given, was_made, asked, wrote_part, all_counted, none_counted, stop_counted, stop_named, cause_told, was_read}
 use Rattle.ov_run.proofs.run.run_serial.Goals as goal
 
 pub returns-in-Err-Usage-clause-taken : goal.returns-in-Err-Usage-clause-taken
@@ -49,15 +49,15 @@ returns-in-Err-clause-not_early g c =
     λ is. early (was_read c.in-Err.stop (sym c.cause_of.ensures ∙ is))
 
 pub returns-in-Err-clause-counted : goal.returns-in-Err-clause-counted
-returns-in-Err-clause-counted g c = λ taken gave. rw c.cause_of.ensures (stop_counted taken c.read_script-good.result.good c.in-Err.stop ((rw c.in-Err.is at c.read_script-good.ensures.counted) taken gave))
+returns-in-Err-clause-counted g c = λ taken gave. rw c.cause_of.ensures (stop_counted lanes_read taken c.read_script-good.result.good c.in-Err.stop ((rw c.in-Err.is at c.read_script-good.ensures.counted) taken gave))
 
 pub returns-in-Ok-outcome-clause-outcome : goal.returns-in-Ok-outcome-clause-outcome
-returns-in-Ok-outcome-clause-outcome g c = reported _ c.in-Ok.plan _ _ c.ran.result.report c.in-Ok-outcome.script c.in-Ok.ensures.plan c.ran.ensures.ran c.ran.ensures.legal c.ran.ensures.lanes
-    (was_given c.in-Ok.plan _ _ c.in-Ok-outcome.script c.in_default.not-Make
+returns-in-Ok-outcome-clause-outcome g c = reported _ c.in-Ok.plan _ _ c.ran.result.report c.in-Ok-outcome.script c.in-Ok.ensures.plan c.ran.ensures.ran c.ran.ensures.legal c.ran.ensures.lanes (serial_plain c.in-Ok.plan c.in-Ok-outcome.script c.ran.result.report (c.requires.serial c.in-Ok.plan c.in-Ok.ensures.plan) c.ran.ensures.ran)
+    (was_given c.in-Ok.plan lanes_read _ _ c.in-Ok-outcome.script (reads c.in-Ok.plan.mode (c.requires.serial c.in-Ok.plan c.in-Ok.ensures.plan) c.in_default.not-Make) (of_serial c.in-Ok.plan (c.requires.serial c.in-Ok.plan c.in-Ok.ensures.plan))
     (rw c.in-Ok-outcome.is at c.read_script-good.ensures.ended) (rw c.in-Ok-outcome.is at c.read_script-good.ensures.script) (rw c.in-Ok-outcome.is at c.read_script-good.ensures.no_stop))
 
 pub returns-in-Ok-outcome-clause-counted : goal.returns-in-Ok-outcome-clause-counted
-returns-in-Ok-outcome-clause-counted g c = λ taken gave. all_counted taken c.in-Ok-outcome.script c.read_script-good.result.good c.ran.result.read_lines c.ran.result.report c.ran.result.cause _ _ _ _ _
+returns-in-Ok-outcome-clause-counted g c = λ taken gave. all_counted lanes_read taken c.in-Ok-outcome.script c.read_script-good.result.good c.ran.result.read_lines c.ran.result.report c.ran.result.cause _ _ _ _ _
     ((rw c.in-Ok-outcome.is at c.read_script-good.ensures.script) taken gave).1 ((rw c.in-Ok-outcome.is at c.read_script-good.ensures.counted) taken gave) c.ran.ensures.lines c.ran.ensures.cause
 
 pub returns-in-Ok-outcome-clause-write_fault : goal.returns-in-Ok-outcome-clause-write_fault
@@ -74,10 +74,10 @@ returns-in-Make-clause-told g c = λ calm event taken gave first. absurd (none_g
 
 pub returns-in-Make-clause-outcome : goal.returns-in-Make-clause-outcome
 returns-in-Make-clause-outcome g c = reported _ c.in-Ok.plan _ _ c.made_ran.result.report (made c.in-Ok.plan.seed c.in-Ok.plan.count) c.in-Ok.ensures.plan c.made_ran.ensures.ran c.made_ran.ensures.legal c.made_ran.ensures.lanes
-    (was_made c.in-Ok.plan _ (made c.in-Ok.plan.seed c.in-Ok.plan.count) c.in-Make.is refl)
+    (serial_plain c.in-Ok.plan (made c.in-Ok.plan.seed c.in-Ok.plan.count) c.made_ran.result.report (c.requires.serial c.in-Ok.plan c.in-Ok.ensures.plan) c.made_ran.ensures.ran) (was_made c.in-Ok.plan _ (made c.in-Ok.plan.seed c.in-Ok.plan.count) (ap makes c.in-Make.is) refl)
 
 pub returns-in-Make-clause-read_lines : goal.returns-in-Make-clause-read_lines
 returns-in-Make-clause-read_lines g c = λ taken gave used. record { good = []; others = counted_lines taken; pieces_are = refl; number = c.made_ran.ensures.lines; all_good = ([], tt) }
 
 pub returns-in-Make-clause-counted : goal.returns-in-Make-clause-counted
-returns-in-Make-clause-counted g c = λ taken gave. none_counted _ taken c.made_ran.result.read_lines c.made_ran.result.report c.made_ran.result.cause _ _ _ _ _ gave c.made_ran.ensures.lines c.made_ran.ensures.cause
+returns-in-Make-clause-counted g c = λ taken gave. none_counted lanes_read _ taken c.made_ran.result.read_lines c.made_ran.result.report c.made_ran.result.cause _ _ _ _ _ gave c.made_ran.ensures.lines c.made_ran.ensures.cause
