@@ -3,6 +3,7 @@
 
 mod job;
 pub mod laws;
+mod pairs;
 mod run;
 
 pub use run::{Ran, gather, run_lanes};

@@ -8,11 +8,12 @@ ghost use Rattle.ov_model.specs.declared.line.Line.{Line};
 ghost use Rattle.ov_model.specs.Sizes.{Fits};
 ghost use Rattle.ov_lane.specs.Passes.{Shared, AreFresh, AreAllPasses};
 ghost use Rattle.ov_lanes.specs.Dealt.{AreDealt, HaveRoom, AreSeated};
-ghost use Rattle.ov_lanes.specs.Jobs.{Setting, AreAtWork, AreAtHead, AreBehindHead, AllRanOut, AllSaw, HaveMet, HaveRunAll, RanOut, are_on, passes_of, log_of};
+ghost use Rattle.ov_lanes.specs.Jobs.{Setting, AreAtWork, AreAtHead, AreBehindHead, AllRanOut, AllSaw, HaveMet, HaveRunAll, LaneSaw, RanOut, are_on, passes_of, log_of};
 ghost use Rattle.ov_lanes.specs.Threads.{HeadFirst};
 ghost use Rattle.ov_lanes.specs.Rans.{ArePlain, report_of};
 
 use crate::job::Job;
+use crate::pairs::with_both;
 use ov_base::{ListOf, Memory};
 use ov_course::Gate;
 use ov_lane::{Closed, Ovpn, Pass};
@@ -236,8 +237,12 @@ fn meet<'a>(jobs: &mut [Job<'a>], one: usize, other: usize)
         return;
     }
     let (low, high) = if one < other { (one, other) } else { (other, one) };
-    let (front, back) = jobs.split_at_mut(high);
-    front[low].meet(&mut back[0]);
+    with_both(jobs, low, high, |one: &mut Job, other: &mut Job|
+        requires { one.old.table ≡ other.old.table }
+        ensures one { LaneSaw one.old one.new }
+        ensures other { LaneSaw other.old other.new }
+        ensures same { one.new.pass.share.sight.seen ≡ other.new.pass.share.sight.seen }
+    { one.meet(other); });
 }
 
 /// Each lane meets one, so that it has seen what that has.
