@@ -21,7 +21,8 @@ use Rattle.ov_plan.proofs.Matches.{mode_word_is}
 use Rattle.ov_made.specs.Made.{made}
 use Rattle.ov_lanes.specs.Threads.{HeadFirst}
 use Rattle.std.specs.Str.{bytes_eq}
-use Rattle.ov_run.specs.Clauses.{Answered, ArePlain, Threaded, Read, IsRead, IsGiven, IsGivenIn, Reported, Runs, RunsIn, EndsBy, WrotePart, Counted, CountedRun, is_made, is_serial, makes, first_id, cause_of, cause_of_stop, IsTold, lanes_read, lanes_of, lanes_asked, load_lanes, load_head}
+use Rattle.ov_lanes.specs.Rans.{ArePlain}
+use Rattle.ov_run.specs.Clauses.{Answered, Threaded, Read, IsRead, IsGiven, IsGivenIn, Reported, Runs, RunsIn, EndsBy, WrotePart, Counted, CountedRun, is_made, is_serial, makes, first_id, cause_of, cause_of_stop, IsTold, lanes_read, lanes_of, lanes_asked, load_lanes, load_head}
 use Rattle.ov_script.specs.declared.script.ReadStop.{ReadStop}
 use Rattle.ov_script.specs.declared.script.ReadStop.TheVariants as stop
 use Rattle.ov_run.specs.declared.ended.Cause.{Cause}

@@ -16,6 +16,7 @@ use Rattle.ov_plan.specs.declared.words.Mode.{Mode}
 use Rattle.ov_plan.specs.declared.words.Mode.TheVariants.{Trace, Steps, Lanes, Make, Load}
 use Rattle.ov_plan.specs.declared.words.RunPlan.{RunPlan}
 use Rattle.ov_plan.specs.Plan.{IsPlan, lanes_given, mode_name, mode_word}
+use Rattle.ov_lanes.specs.Rans.{ArePlain}
 use Rattle.ov_lanes.specs.Threads.{HeadFirst}
 use Rattle.ov_made.specs.Made.{made}
 use Rattle.ov_script.specs.Reading.{Gave, IsScript, HasNoStop, Early, Stop, Event, bad_line, passed, cut, whole_lines, CountsTo}
@@ -119,10 +120,6 @@ RunsIn Steps first schedule head script report = Scheduled (via_of script.routes
 RunsIn Lanes first schedule head script report = HeadFirst script head report
 RunsIn Make first schedule head script report = Serial (via_of script.routes) script first report
 RunsIn Load first schedule head script report = HeadFirst script load_head report
-
--- No line of these logs came from a link, and no link refused a part.
-abbrev pub ArePlain : List LaneLog → Type 0
-ArePlain logs = AllByRecursion (λ log. (log.recorded ≡ 0) × (log.unsent ≡ [])) logs
 
 -- A report of lanes on threads: it is legal, its head comes first, it has a log for each lane, and nothing came from links.
 pub record Threaded (script : Script) (first lanes head : ℕ) (report : Report) : Type 0 where

@@ -9,6 +9,8 @@ use crate::ended::Cause;
 use crate::tests::{ends_by, run, writes};
 use std::alloc::Global;
 use std::process::Abort;
+use std::sync::Wait;
+use std::thread::Threads;
 
 /// A peer with id 5.
 pub const PEER5: &str =
@@ -74,21 +76,21 @@ fn is_end(rt: &impl Abort, status: u8, text: &[u8], end: &[u8]) {
 }
 
 /// A run of each line of a script to its end has the status 0, and its text ends with these lines.
-pub fn ends_in(rt: &impl Abort, alloc: Global, script: &[u8], lines: &[&str]) {
+pub fn ends_in(rt: &(impl Abort + Threads + Wait + Sync), alloc: Global, script: &[u8], lines: &[&str]) {
     let end = text(rt, alloc, lines);
     let (status, written) = run(rt, alloc, &["trace"], script, &[], &[]);
     is_end(rt, status, written.as_slice(), end.as_slice());
 }
 
 /// Runs a script of these lines with these words; the whole text that is written must be these lines of a report.
-pub fn written(rt: &impl Abort, alloc: Global, words: &[&str], script: &[&str], report: &[&str]) {
+pub fn written(rt: &(impl Abort + Threads + Wait + Sync), alloc: Global, words: &[&str], script: &[&str], report: &[&str]) {
     let script = text(rt, alloc, script);
     let report = text(rt, alloc, report);
     writes(rt, alloc, words, script.as_slice(), 0, report.as_slice());
 }
 
 /// Runs each line of a script to its end; the whole text that is written must be these lines of a report.
-fn gives(rt: &impl Abort, alloc: Global, script: &[&str], report: &[&str]) {
+fn gives(rt: &(impl Abort + Threads + Wait + Sync), alloc: Global, script: &[&str], report: &[&str]) {
     written(rt, alloc, &["trace"], script, report);
 }
 
@@ -306,7 +308,7 @@ fn sixty_packets_are_sealed_with_ids_from_1_to_60(rt: HostRuntime) {
 }
 
 /// A script whose third line is this one is told by that line's number, and nothing is written.
-fn is_bad(rt: &impl Abort, alloc: Global, line: &str) {
+fn is_bad(rt: &(impl Abort + Threads + Wait + Sync), alloc: Global, line: &str) {
     let script = text(rt, alloc, &[PEER5, KEY5, line, SEND5]);
     ends_by(rt, alloc, script.as_slice(), Cause::BadLine(3));
     writes(rt, alloc, &["trace"], script.as_slice(), 2, b"");

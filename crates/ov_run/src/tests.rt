@@ -1,21 +1,23 @@
 //! Whole runs over sources and sinks in memory, in pieces of 16 bytes.
 
-ghost use Rattle.std.specs.Prelude.{◌≢◌, IfSome, map, string_bytes};
+ghost use Rattle.std.specs.Prelude.{◌≡◌, IfSome, false, map, string_bytes};
 ghost use Rattle.ov_model.specs.declared.line.Script.{Script};
 ghost use Rattle.ov_model.specs.Legal.{Legal};
 ghost use Rattle.ov_plan.specs.declared.words.RunPlan.{RunPlan};
-ghost use Rattle.ov_plan.specs.declared.words.Mode.TheVariants as mode;
 ghost use Rattle.ov_plan.specs.Plan.{IsPlan};
-ghost use Rattle.ov_run.specs.Clauses.{Read, first_id};
+ghost use Rattle.ov_run.specs.Clauses.{Read, first_id, lanes_of, makes};
 
 use crate::ended::{Cause, Ended};
-use crate::run::run_serial;
+use crate::threads;
 use crate::told::{say, tell, tell_why};
 use ov_base::{ListOf, MemorySink, MemorySource, Octets, Sink};
+use ov_course::{Gate, OpenGate};
 use ov_plan::About;
 use ov_script::Limit;
 use std::alloc::Global;
 use std::process::Abort;
+use std::sync::Wait;
+use std::thread::Threads;
 
 const PEER5: &str =
     r#"{"at":0,"do":"peer-new","lane":0,"peer":{"id":5,"remote-ipv4":"192.0.2.1","remote-port":1194,"vpn-ipv4":"10.8.0.5"}}
@@ -55,8 +57,8 @@ fn words_of(rt: &impl Abort, alloc: Global, texts: &[&str]) -> Vec<String> {
 }
 
 /// How a run on `text` ended and what it wrote, with these words and where these calls fail.
-fn ran(
-    rt: &impl Abort,
+pub fn ran(
+    rt: &(impl Abort + Threads + Wait + Sync),
     alloc: Global,
     texts: &[&str],
     text: &[u8],
@@ -67,13 +69,28 @@ fn ran(
     let bytes = octets(rt, alloc, text);
     let mut source = MemorySource::new(bytes, 16, calls(rt, alloc, reads));
     let mut sink = MemorySink::new(alloc, 16, calls(rt, alloc, writes));
-    let ended = run_serial(alloc, words.as_slice(), &mut source, &mut sink);
+    let ended = threads::run(rt, alloc, words.as_slice(), &mut source, &mut sink, &OpenGate);
+    (ended, octets(rt, alloc, sink.written()))
+}
+
+/// How a run on `text` ended and what it wrote, with these words, where this gate is told of each line on a thread.
+pub fn ran_by<G: Gate + Sync>(
+    rt: &(impl Abort + Threads + Wait + Sync),
+    alloc: Global,
+    texts: &[&str],
+    text: &[u8],
+    gate: &G,
+) -> (Ended, Octets) {
+    let words = words_of(rt, alloc, texts);
+    let mut source = MemorySource::new(octets(rt, alloc, text), 16, ListOf::new(alloc));
+    let mut sink = MemorySink::new(alloc, 16, ListOf::new(alloc));
+    let ended = threads::run(rt, alloc, words.as_slice(), &mut source, &mut sink, gate);
     (ended, octets(rt, alloc, sink.written()))
 }
 
 /// The status and the written text of a run on `text`, with these words and where these calls fail.
 pub fn run(
-    rt: &impl Abort,
+    rt: &(impl Abort + Threads + Wait + Sync),
     alloc: Global,
     words: &[&str],
     text: &[u8],
@@ -85,7 +102,7 @@ pub fn run(
 }
 
 /// A run on `text` ends by this cause.
-pub fn ends_by(rt: &impl Abort, alloc: Global, text: &[u8], wanted: Cause) {
+pub fn ends_by(rt: &(impl Abort + Threads + Wait + Sync), alloc: Global, text: &[u8], wanted: Cause) {
     let (ended, _) = ran(rt, alloc, &["trace"], text, &[], &[]);
     let cause = ended.cause;
     assert_eq!(rt; cause, wanted);
@@ -99,7 +116,7 @@ pub fn are(rt: &impl Abort, status: u8, text: &[u8], wanted: u8, wanted_text: &[
 
 /// A run on `text` with these words ends with this status and writes this text.
 pub fn writes(
-    rt: &impl Abort,
+    rt: &(impl Abort + Threads + Wait + Sync),
     alloc: Global,
     words: &[&str],
     text: &[u8],
@@ -167,7 +184,7 @@ fn a_bad_line_or_another_word_runs_nothing(rt: HostRuntime) {
 }
 
 /// A run with these words, which are no plan's, reads and writes nothing; its status is 1, and it tells the usage.
-fn tells_usage(rt: &impl Abort, alloc: Global, words: &[&str]) {
+fn tells_usage(rt: &(impl Abort + Threads + Wait + Sync), alloc: Global, words: &[&str]) {
     let (ended, written) = ran(rt, alloc, words, PEER5.as_bytes(), &[], &[]);
     is_unrun(rt, &ended, written.as_slice(), Cause::Usage, 1, 0);
     is_told(rt, alloc, ended.cause, "ovpn: usage: ovpn MODE [options]\n");
@@ -212,7 +229,7 @@ fn is_none_or_whole(rt: &impl Abort, status: u8, text: &[u8], whole: &[u8]) {
 }
 
 /// A read that fails at this call is told, and nothing is written; or the run never came to it.
-fn tells_a_read_fault(rt: &impl Abort, alloc: Global, number: u64, whole: &[u8]) {
+fn tells_a_read_fault(rt: &(impl Abort + Threads + Wait + Sync), alloc: Global, number: u64, whole: &[u8]) {
     let (status, written) = run(rt, alloc, &["trace"], PEER5.as_bytes(), &[number], &[]);
     is_none_or_whole(rt, status, written.as_slice(), whole);
 }
@@ -225,13 +242,13 @@ fn is_part(rt: &impl Abort, status: u8, text: &[u8], whole: &[u8]) {
 }
 
 /// A write that fails at this call is told, and a part from the front is written; or the run never came to it.
-fn tells_a_write_fault(rt: &impl Abort, alloc: Global, number: u64, whole: &[u8]) {
+fn tells_a_write_fault(rt: &(impl Abort + Threads + Wait + Sync), alloc: Global, number: u64, whole: &[u8]) {
     let (status, written) = run(rt, alloc, &["trace"], PEER5.as_bytes(), &[], &[number]);
     is_part(rt, status, written.as_slice(), whole);
 }
 
 /// A fault at any of the first calls is told; without one the status is this one, which is 0, and this is written.
-fn tells_each_fault(rt: &impl Abort, alloc: Global, status: u8, whole: &[u8]) {
+fn tells_each_fault(rt: &(impl Abort + Threads + Wait + Sync), alloc: Global, status: u8, whole: &[u8]) {
     assert_eq!(rt; status, 0);
     for number in 0..24_u64 {
         tells_a_read_fault(rt, alloc, number, whole);
@@ -240,7 +257,7 @@ fn tells_each_fault(rt: &impl Abort, alloc: Global, status: u8, whole: &[u8]) {
 }
 
 /// The status of a run where these calls fail.
-fn status_of(rt: &impl Abort, alloc: Global, reads: &[u64], writes: &[u64]) -> u8 {
+fn status_of(rt: &(impl Abort + Threads + Wait + Sync), alloc: Global, reads: &[u64], writes: &[u64]) -> u8 {
     let (status, _) = run(rt, alloc, &["trace"], PEER5.as_bytes(), reads, writes);
     status
 }
@@ -255,14 +272,20 @@ fn a_fault_at_any_call_is_told_and_changes_no_report(rt: HostRuntime) {
 
 /// A run on a text in memory, in pieces of 16 bytes. Its report is legal for the text's script, where the words ask
 /// for no other: what the source gave is known from what it held, and is no premise.
-fn traced<K: Sink>(alloc: Global, words: &[String], text: Octets, sink: &mut K) -> Ended
+fn traced<K: Sink>(
+    rt: &(impl Abort + Threads + Wait + Sync),
+    alloc: Global,
+    words: &[String],
+    text: Octets,
+    sink: &mut K,
+) -> Ended
     ensures { IfSome result.report (λ report.
         (plan : RunPlan) × IsPlan (map string_bytes words.now) plan ×
-        ((script : Script) × (plan.mode ≢ mode.Make → Read text script) ×
+        ((script : Script) × (makes plan.mode ≡ false → Read (lanes_of plan) text script) ×
         Legal script (first_id plan) report)) }
 {
     let mut source = MemorySource::new(text, 16, ListOf::new(alloc));
-    run_serial(alloc, words, &mut source, sink)
+    threads::run(rt, alloc, words, &mut source, sink, &OpenGate)
 }
 
 /// A run ended well and has a report.
@@ -277,7 +300,7 @@ fn a_text_in_memory_has_a_report_of_its_script(rt: HostRuntime) {
     let words = words_of(&rt, alloc, &["trace"]);
     let text = octets(&rt, alloc, PEER5.as_bytes());
     let mut sink = MemorySink::new(alloc, 16, ListOf::new(alloc));
-    let ended = traced(alloc, words.as_slice(), text, &mut sink);
+    let ended = traced(&rt, alloc, words.as_slice(), text, &mut sink);
     has_report(&rt, &ended);
 }
 

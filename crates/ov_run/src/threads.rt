@@ -6,6 +6,7 @@ ghost use Rattle.std.specs.List.{AllByRecursion};
 ghost use Rattle.ov_base.specs.Outside.{Rose};
 ghost use Rattle.ov_model.specs.Legal.{Legal};
 ghost use Rattle.ov_model.specs.Sizes.{Fits};
+ghost use Rattle.ov_lanes.specs.Rans.{ArePlain};
 ghost use Rattle.ov_lanes.specs.Threads.{HeadFirst};
 ghost use Rattle.ov_made.specs.Made as script_made;
 ghost use Rattle.ov_script.specs.Reading as reading;
@@ -50,7 +51,7 @@ fn report_on_threads<R: Threads + Wait + Sync, G: Gate + Sync>(
     ensures legal { IfOk result (Legal script first) }
     ensures head { IfOk result (HeadFirst script head) }
     ensures lanes { IfOk result (λ report. length report.lanes ≡ lanes) }
-    ensures plain { IfOk result (λ report. spec.ArePlain report.lanes) }
+    ensures plain { IfOk result (λ report. ArePlain report.lanes) }
 {
     let ran = run_lanes(rt, alloc, script, first, lanes, head, gate)?;
     Ok(gather(ran))
