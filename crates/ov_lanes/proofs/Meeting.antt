@@ -126,9 +126,9 @@ runs_saw lines n low old new runs saw =
       count = runs.count;
       most = runs.most;
       turns = all_mapped Own (λ (l : Lane). l.pass) new (λ i b is.
-        let was = lane_before old new i b saw is in
-        let own : b.pass.share.sight.own ≡ was.x.pass.share.sight.own = ap (λ (s : Sight Entry). s.own) (saw.each i was.x b was.is is).saw.seen.seen.same in
-        subst (λ es. AllByRecursion (InHead lines runs.ends) es) (sym own) (all_at Own (passes_of old) i was.x.pass runs.turns (pass_at old i was.x was.is)));
+          let was = lane_before old new i b saw is in
+          let own : b.pass.share.sight.own ≡ was.x.pass.share.sight.own = ap (λ (s : Sight Entry). s.own) (saw.each i was.x b was.is is).saw.seen.seen.same in
+          subst (λ es. AllByRecursion (InHead lines runs.ends) es) (sym own) (all_at Own (passes_of old) i was.x.pass runs.turns (pass_at old i was.x was.is)));
       run = record {
         each = λ i p at.
             let its = lane_of new i p at in
