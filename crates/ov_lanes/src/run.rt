@@ -236,13 +236,24 @@ fn meet<'a>(jobs: &mut [Job<'a>], one: usize, other: usize)
     if one == other {
         return;
     }
-    let (low, high) = if one < other { (one, other) } else { (other, one) };
-    with_both(jobs, low, high, |one: &mut Job, other: &mut Job|
-        requires { one.old.table ≡ other.old.table }
-        ensures one { LaneSaw one.old one.new }
-        ensures other { LaneSaw other.old other.new }
-        ensures same { one.new.pass.share.sight.seen ≡ other.new.pass.share.sight.seen }
-    { one.meet(other); });
+    let (low, high) = if one < other {
+        (one, other)
+    } else {
+        (other, one)
+    };
+    with_both(
+        jobs,
+        low,
+        high,
+        |first: &mut Job, second: &mut Job|
+            requires { first.old.table ≡ second.old.table }
+            ensures first { LaneSaw first.old first.new }
+            ensures second { LaneSaw second.old second.new }
+            ensures same { first.new.pass.share.sight.seen ≡ second.new.pass.share.sight.seen }
+        {
+            first.meet(second);
+        },
+    );
 }
 
 /// Each lane meets one, so that it has seen what that has.
