@@ -8,12 +8,12 @@ use Rattle.ov_lanes.proofs.run.run_all.Goals as goal
 
 pub meet_all-requires : goal.meet_all-requires
 meet_all-requires g c =
-    let few : length c.args.order.now ≡ length (take g.it.head g.it.lines) = ap length c.requires.1.1.1.0 ∙ length-map (λ (l : Line). l.lane) (take g.it.head g.it.lines) in
+    let few : length c.args.order.now ≡ length (take g.it.head g.it.lines) = ap length c.requires.1.1.1.1.1.0 ∙ length-map (take g.it.head g.it.lines) (λ (l : Line). l.lane) in
     (subst (λ n. AreAtHead g.it.table g.it.lines n c.in-Some.last c.run_head.new.jobs.items) few c.in-Some.ensures.some, c.in-Some.ensures.last)
 
 pub returns-in-Some : goal.returns-in-Some
 returns-in-Some g c =
-    let few : length c.args.order.now ≡ length (take g.it.head g.it.lines) = ap length c.requires.1.1.1.0 ∙ length-map (λ (l : Line). l.lane) (take g.it.head g.it.lines) in
+    let few : length c.args.order.now ≡ length (take g.it.head g.it.lines) = ap length c.requires.1.1.1.1.1.0 ∙ length-map (take g.it.head g.it.lines) (λ (l : Line). l.lane) in
     let before : List Lane = c.meet_all.new.jobs.items in
     let after : List Lane = c.run_side_by_side.new.jobs in
     let ran : AllRanOut before after = subst (λ (xs : List Lane). AllRanOut xs after) c.as_mut_slice.ensures.value c.run_side_by_side.ensures in
