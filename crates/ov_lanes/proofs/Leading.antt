@@ -2,14 +2,14 @@
 use Rattle.std.proofs.Common.{ℕ, zero, suc, ◌≡◌, ◌+◌, ◌<◌, ◌≤◌, List, [], ◌∷◌, length, map, set, slice_index_or, refl, sym, ◌∙◌, ap, subst, true, false, arith, inl, inr}
 use Rattle.std.specs.Prelude.{slice_get, slice_set, take, Some}
 use Rattle.std.specs.List.{AllByRecursion}
-use Rattle.std.proofs.lemmas.Option.{none-some, same_Some, slice_get_read, slice_get_within}
+use Rattle.std.proofs.lemmas.Option.{none-some, same_Some, slice_get-get_or, slice_get_read, slice_get_within}
 use Rattle.ov_model.specs.declared.line.Line.{Line}
 use Rattle.ov_model.specs.declared.place.Place.{Place}
 use Rattle.ov_model.specs.Legal.{lane_lines}
 use Rattle.ov_share.specs.Added.{HasAdded}
 use Rattle.ov_share.specs.Passings.{Passing}
 use Rattle.ov_lane.specs.Passes.{Shared}
-use Rattle.ov_core.proofs.Seats.{set_case, all_at}
+use Rattle.ov_core.proofs.Seats.{set_case, all_at, map_set}
 use Rattle.ov_lanes.specs.Heads.{HeadRuns}
 use Rattle.ov_lanes.specs.Jobs.{Lane, Stands, RanNext, AllSaw, HaveMet, AllRanOut, AreAtWork, AreAtHead, AreBehindHead, HaveRunAll, RanOut, are_on, next_of, passes_of, IsReady}
 use Rattle.ov_lanes.proofs.Running.{next_of_lane, head_answers}
@@ -42,14 +42,9 @@ line_at head lines order n lane order_is at =
     let its : HasLine (take head lines) n lane = line_in (take head lines) n lane (sym (ap (λ o. slice_get o n) order_is) ∙ at) in
     record { line = its.line; at = taken_at head lines n its.line its.at; lane_is = its.lane_is }
 
-read_at : (xs : List ℕ) (n d : ℕ) → n < length xs → slice_get xs n ≡ Some (slice_index_or xs n d)
-read_at [] n d below = absurd (omega arith)
-read_at (x ∷ xs) zero d below = refl
-read_at (x ∷ xs) (suc n) d below = read_at xs n d (omega arith)
-
 -- The same of the lane that is read.
 pub line_of : (head : ℕ) (lines : List Line) (order : List ℕ) (n : ℕ) → order ≡ map (λ line. line.lane) (take head lines) → n < length order → HasLine lines n (slice_index_or order n 0)
-line_of head lines order n order_is below = line_at head lines order n (slice_index_or order n 0) order_is (read_at order n 0 below)
+line_of head lines order n order_is below = line_at head lines order n (slice_index_or order n 0) order_is (slice_get-get_or order n 0 below)
 
 -- Its lane is one of the lanes.
 pub lane_below : (count : ℕ) (lines : List Line) (n lane : ℕ) → AllByRecursion (λ line. line.lane < count) lines → HasLine lines n lane → lane < count
@@ -67,11 +62,6 @@ head_left o lines n lane lanes own head its at =
     omega arith
 
 -- ---- a lane ran its next line
-
-passes_set : (lanes : List Lane) (i : ℕ) (new : Lane) → passes_of (slice_set lanes i new) ≡ set (passes_of lanes) i new.pass
-passes_set [] i new = refl
-passes_set (l ∷ lanes) zero new = refl
-passes_set (l ∷ lanes) (suc i) new = ap (λ ps. l.pass ∷ ps) (passes_set lanes i new)
 
 set_here : {X : Type 0} (xs : List X) (i : ℕ) (new x : X) → slice_get (slice_set xs i new) i ≡ Some x → x ≡ new
 set_here xs i new x at = elim (set_case xs i i new x at) [
@@ -114,7 +104,7 @@ head_next o lines n lane lanes own new head its at ran on =
     let added : HasAdded (λ p. p ≡ record { lane = its.line.lane; line = own.pass.lines }) own.pass.share new.pass.share = subst (λ (q : Place). HasAdded (λ p. p ≡ q) own.pass.share new.pass.share) place stays.added in
     let own_at : slice_get (passes_of lanes) its.line.lane ≡ Some own.pass = subst (λ k. slice_get (passes_of lanes) k ≡ Some own.pass) (sym its.lane_is) (pass_at lanes lane own at) in
     let runs : HeadRuns lines (n + 1) (length new.pass.share.sight.seen) (set (passes_of lanes) its.line.lane new.pass) = head_answers lines n head.low its.line (passes_of lanes) own.pass new.pass head.runs its.at own_at (head.saw own at) stays.number one added in
-    let there : set (passes_of lanes) its.line.lane new.pass ≡ passes_of (slice_set lanes lane new) = ap (λ k. set (passes_of lanes) k new.pass) its.lane_is ∙ sym (passes_set lanes lane new) in
+    let there : set (passes_of lanes) its.line.lane new.pass ≡ passes_of (slice_set lanes lane new) = ap (λ k. set (passes_of lanes) k new.pass) its.lane_is ∙ sym (map_set (λ (l : Lane). l.pass) lanes lane new) in
     record {
       work = next_work o lines lanes lane own new head.work head.on at ran;
       on = all_from (λ (l : Lane). l.stopped ≡ false) (slice_set lanes lane new) (λ i l is. elim (set_case lanes lane i new l is) [
@@ -156,18 +146,19 @@ pub record IsTurn (o : Shared) (lines : List Line) (n lane : ℕ) (lanes : List 
   pub at : slice_get lanes lane ≡ Some own
   pub head : AreAtHead o lines n lane lanes
 
-pub turn : (o : Shared) (lines : List Line) (head count : ℕ) (order : List ℕ) (n last : ℕ) (before after : List Lane) (own : Lane) → order ≡ map (λ line. line.lane) (take head lines) → AllByRecursion (λ line. line.lane < count) lines → n < length order → AreAtHead o lines n last before → last < length before → length before ≡ count
-    → AllSaw before after → HaveMet last (slice_index_or order n 0) after → own ≡ slice_index_or after (slice_index_or order n 0) own → IsTurn o lines n (slice_index_or order n 0) after own
-turn o lines head count order n last before after own order_is named below at_head within counted saw met own_is =
+pub turn : (o : Shared) (lines : List Line) (head count : ℕ) (order : List ℕ) (n last : ℕ) (before lent after lanes : List Lane) (own : Lane) → order ≡ map (λ line. line.lane) (take head lines) → AllByRecursion (λ line. line.lane < count) lines → n < length order → AreAtHead o lines n last before → last < length before → length before ≡ count
+    → lent ≡ before → lanes ≡ after → AllSaw lent after → HaveMet last (slice_index_or order n 0) after → own ≡ slice_index_or lanes (slice_index_or order n 0) own → IsTurn o lines n (slice_index_or order n 0) lanes own
+turn o lines head count order n last before lent after lanes own order_is named below at_head within counted lent_is lanes_is saw met own_is =
     let its = line_of head lines order n order_is below in
     let lane : ℕ = slice_index_or order n 0 in
+    let more : AllSaw before lanes = subst (AllSaw before) (sym lanes_is) (subst (λ (xs : List Lane). AllSaw xs after) lent_is saw) in
     let first : lane < count = lane_below count lines n lane named its in
-    let here : lane < length after = subst (λ k. lane < k) (sym counted ∙ sym saw.count) first in
+    let here : lane < length lanes = subst (λ k. lane < k) (sym counted ∙ sym more.count) first in
     record {
       line = its;
       here = here;
-      at = slice_get_read after (length after) lane own refl here own_is;
-      head = head_met o lines n last lane before after at_head within saw met;
+      at = slice_get_read lanes (length lanes) lane own refl here own_is;
+      head = head_met o lines n last lane before lanes at_head within more (subst (HaveMet last lane) (sym lanes_is) met);
     }
 
 -- The next line's lane is one of the lanes.

@@ -28,15 +28,12 @@ index_mut-requires g c =
 
 pub run_next-requires : goal.run_next-requires
 run_next-requires g c =
-    let before : List Lane = c.loop-lane.jobs.items in
-    let after : List Lane = c.meet.new.jobs in
     let lane : ℕ = slice_index_or c.args.order.now c.loop-lane.lane-index 0 in
     let own : Lane = c.index_mut.result.now in
-    let saw : AllSaw before after = subst (λ (xs : List Lane). AllSaw xs after) c.as_mut_slice.ensures.value c.meet.ensures.saw in
-    let left : take c.loop-lane.jobs.len (after ++ drop (length after) before) ≡ after = with_items_is c.loop-lane.jobs after (c.meet.ensures.saw.count ∙ c.as_mut_slice.ensures.len) in
-    let read : own ≡ slice_index_or after lane own = subst (λ (xs : List Lane). own ≡ slice_index_or xs lane own) left c.index_mut.ensures.value in
-    let its : IsTurn g.it.table g.it.lines c.loop-lane.lane-index lane after own = turn g.it.table g.it.lines g.it.head (length c.args.jobs.now.items) c.args.order.now c.loop-lane.lane-index c.loop-lane.last before after own c.requires.1.1.1.0 c.requires.1.1.1.1.0 c.loop-lane-test.true c.loop-lane.invariant.head c.loop-lane.invariant.within c.loop-lane.invariant.count saw c.meet.ensures.met read in
-    record { left = head_left g.it.table g.it.lines c.loop-lane.lane-index lane after own its.head its.line its.at }
+    let left = with_items_is c.loop-lane.jobs c.meet.new.jobs (c.meet.ensures.saw.count ∙ c.as_mut_slice.ensures.len) in
+    let its = turn g.it.table g.it.lines g.it.head (length c.args.jobs.now.items) c.args.order.now c.loop-lane.lane-index c.loop-lane.last c.loop-lane.jobs.items c.as_mut_slice.result.now c.meet.new.jobs _ own
+      c.requires.1.1.1.0 c.requires.1.1.1.1.0 c.loop-lane-test.true c.loop-lane.invariant.head c.loop-lane.invariant.within c.loop-lane.invariant.count c.as_mut_slice.ensures.value left c.meet.ensures.saw c.meet.ensures.met c.index_mut.ensures.value in
+    record { left = head_left g.it.table g.it.lines c.loop-lane.lane-index lane _ own its.head its.line its.at }
 
 pub index-requires : goal.index-requires
 index-requires g c =
@@ -45,53 +42,38 @@ index-requires g c =
 
 pub returns-then-stopped-clause-work : goal.returns-then-stopped-clause-work
 returns-then-stopped-clause-work g c =
-    let before : List Lane = c.loop-lane.jobs.items in
-    let after : List Lane = c.meet.new.jobs in
     let lane : ℕ = slice_index_or c.args.order.now c.loop-lane.lane-index 0 in
     let own : Lane = c.index_mut.result.now in
-    let saw : AllSaw before after = subst (λ (xs : List Lane). AllSaw xs after) c.as_mut_slice.ensures.value c.meet.ensures.saw in
-    let left : take c.loop-lane.jobs.len (after ++ drop (length after) before) ≡ after = with_items_is c.loop-lane.jobs after (c.meet.ensures.saw.count ∙ c.as_mut_slice.ensures.len) in
-    let read : own ≡ slice_index_or after lane own = subst (λ (xs : List Lane). own ≡ slice_index_or xs lane own) left c.index_mut.ensures.value in
-    let its : IsTurn g.it.table g.it.lines c.loop-lane.lane-index lane after own = turn g.it.table g.it.lines g.it.head (length c.args.jobs.now.items) c.args.order.now c.loop-lane.lane-index c.loop-lane.last before after own c.requires.1.1.1.0 c.requires.1.1.1.1.0 c.loop-lane-test.true c.loop-lane.invariant.head c.loop-lane.invariant.within c.loop-lane.invariant.count saw c.meet.ensures.met read in
-    subst (λ (xs : List Lane). AreAtWork g.it.table g.it.lines (slice_set xs lane c.run_next.new.self)) (sym left) (next_work g.it.table g.it.lines after lane own c.run_next.new.self its.head.work its.head.on its.at c.run_next.ensures)
+    let left = with_items_is c.loop-lane.jobs c.meet.new.jobs (c.meet.ensures.saw.count ∙ c.as_mut_slice.ensures.len) in
+    let its = turn g.it.table g.it.lines g.it.head (length c.args.jobs.now.items) c.args.order.now c.loop-lane.lane-index c.loop-lane.last c.loop-lane.jobs.items c.as_mut_slice.result.now c.meet.new.jobs _ own
+      c.requires.1.1.1.0 c.requires.1.1.1.1.0 c.loop-lane-test.true c.loop-lane.invariant.head c.loop-lane.invariant.within c.loop-lane.invariant.count c.as_mut_slice.ensures.value left c.meet.ensures.saw c.meet.ensures.met c.index_mut.ensures.value in
+    next_work g.it.table g.it.lines _ lane own c.run_next.new.self its.head.work its.head.on its.at c.run_next.ensures
 
 pub returns-then-stopped-clause-stopped : goal.returns-then-stopped-clause-stopped
 returns-then-stopped-clause-stopped g c =
-    let before : List Lane = c.loop-lane.jobs.items in
-    let after : List Lane = c.meet.new.jobs in
     let lane : ℕ = slice_index_or c.args.order.now c.loop-lane.lane-index 0 in
     let own : Lane = c.index_mut.result.now in
-    let saw : AllSaw before after = subst (λ (xs : List Lane). AllSaw xs after) c.as_mut_slice.ensures.value c.meet.ensures.saw in
-    let left : take c.loop-lane.jobs.len (after ++ drop (length after) before) ≡ after = with_items_is c.loop-lane.jobs after (c.meet.ensures.saw.count ∙ c.as_mut_slice.ensures.len) in
-    let read : own ≡ slice_index_or after lane own = subst (λ (xs : List Lane). own ≡ slice_index_or xs lane own) left c.index_mut.ensures.value in
-    let its : IsTurn g.it.table g.it.lines c.loop-lane.lane-index lane after own = turn g.it.table g.it.lines g.it.head (length c.args.jobs.now.items) c.args.order.now c.loop-lane.lane-index c.loop-lane.last before after own c.requires.1.1.1.0 c.requires.1.1.1.1.0 c.loop-lane-test.true c.loop-lane.invariant.head c.loop-lane.invariant.within c.loop-lane.invariant.count saw c.meet.ensures.met read in
+    let left = with_items_is c.loop-lane.jobs c.meet.new.jobs (c.meet.ensures.saw.count ∙ c.as_mut_slice.ensures.len) in
+    let its = turn g.it.table g.it.lines g.it.head (length c.args.jobs.now.items) c.args.order.now c.loop-lane.lane-index c.loop-lane.last c.loop-lane.jobs.items c.as_mut_slice.result.now c.meet.new.jobs _ own
+      c.requires.1.1.1.0 c.requires.1.1.1.1.0 c.loop-lane-test.true c.loop-lane.invariant.head c.loop-lane.invariant.within c.loop-lane.invariant.count c.as_mut_slice.ensures.value left c.meet.ensures.saw c.meet.ensures.met c.index_mut.ensures.value in
     let new : Lane = c.run_next.new.self in
-    let is : c.index.result.now ≡ new = subst (λ (xs : List Lane). c.index.result.now ≡ slice_index_or (slice_set xs lane new) lane c.index.result.now) left c.index.ensures ∙ index_set after lane new c.index.result.now its.here in
-    λ none on. next_off after lane own new its.at (sym (ap (λ (l : Lane). l.stopped) is) ∙ sym c.stopped.ensures ∙ c.if-stopped.true) (subst (λ (xs : List Lane). are_on (slice_set xs lane new)) left on)
+    let is : c.index.result.now ≡ new = c.index.ensures ∙ index_set _ lane new c.index.result.now its.here in
+    λ none on. next_off _ lane own new its.at (sym (ap (λ (l : Lane). l.stopped) is) ∙ sym c.stopped.ensures ∙ c.if-stopped.true) on
 
 pub loop-lane-preserved : goal.loop-lane-preserved
 loop-lane-preserved g c =
-    let before : List Lane = c.loop-lane.jobs.items in
-    let after : List Lane = c.meet.new.jobs in
     let lane : ℕ = slice_index_or c.args.order.now c.loop-lane.lane-index 0 in
     let own : Lane = c.index_mut.result.now in
-    let saw : AllSaw before after = subst (λ (xs : List Lane). AllSaw xs after) c.as_mut_slice.ensures.value c.meet.ensures.saw in
-    let left : take c.loop-lane.jobs.len (after ++ drop (length after) before) ≡ after = with_items_is c.loop-lane.jobs after (c.meet.ensures.saw.count ∙ c.as_mut_slice.ensures.len) in
-    let read : own ≡ slice_index_or after lane own = subst (λ (xs : List Lane). own ≡ slice_index_or xs lane own) left c.index_mut.ensures.value in
-    let its : IsTurn g.it.table g.it.lines c.loop-lane.lane-index lane after own = turn g.it.table g.it.lines g.it.head (length c.args.jobs.now.items) c.args.order.now c.loop-lane.lane-index c.loop-lane.last before after own c.requires.1.1.1.0 c.requires.1.1.1.1.0 c.loop-lane-test.true c.loop-lane.invariant.head c.loop-lane.invariant.within c.loop-lane.invariant.count saw c.meet.ensures.met read in
+    let left = with_items_is c.loop-lane.jobs c.meet.new.jobs (c.meet.ensures.saw.count ∙ c.as_mut_slice.ensures.len) in
+    let its = turn g.it.table g.it.lines g.it.head (length c.args.jobs.now.items) c.args.order.now c.loop-lane.lane-index c.loop-lane.last c.loop-lane.jobs.items c.as_mut_slice.result.now c.meet.new.jobs _ own
+      c.requires.1.1.1.0 c.requires.1.1.1.1.0 c.loop-lane-test.true c.loop-lane.invariant.head c.loop-lane.invariant.within c.loop-lane.invariant.count c.as_mut_slice.ensures.value left c.meet.ensures.saw c.meet.ensures.met c.index_mut.ensures.value in
     let new : Lane = c.run_next.new.self in
-    let is : c.index.result.now ≡ new = subst (λ (xs : List Lane). c.index.result.now ≡ slice_index_or (slice_set xs lane new) lane c.index.result.now) left c.index.ensures ∙ index_set after lane new c.index.result.now its.here in
-    let on : new.stopped ≡ false = sym (ap (λ (l : Lane). l.stopped) is) ∙ sym c.stopped.ensures ∙ c.if-stopped.false in
-    let count : length (slice_set after lane new) ≡ length c.args.jobs.now.items = length-set after lane new ∙ (saw.count ∙ c.loop-lane.invariant.count) in
-    subst (λ (xs : List Lane). record {
-      head : AreAtHead g.it.table g.it.lines (c.loop-lane.lane-index + 1) lane (slice_set xs lane new);
-      within : lane < length (slice_set xs lane new);
-      count : length (slice_set xs lane new) ≡ length c.args.jobs.now.items;
-    }) (sym left) (record {
-      head = head_next g.it.table g.it.lines c.loop-lane.lane-index lane after own new its.head its.line its.at c.run_next.ensures on;
-      within = subst (λ n. lane < n) (sym (length-set after lane new)) its.here;
-      count = count;
-    })
+    let is : c.index.result.now ≡ new = c.index.ensures ∙ index_set _ lane new c.index.result.now its.here in
+    record {
+      head = head_next g.it.table g.it.lines c.loop-lane.lane-index lane _ own new its.head its.line its.at c.run_next.ensures (sym (ap (λ (l : Lane). l.stopped) is) ∙ sym c.stopped.ensures ∙ c.if-stopped.false);
+      within = subst (λ n. lane < n) (sym (length-set _ lane new)) its.here;
+      count = length-set _ lane new ∙ ap length left ∙ c.meet.ensures.saw.count ∙ ap length c.as_mut_slice.ensures.value ∙ c.loop-lane.invariant.count;
+    }
 
 pub returns-clause-some : goal.returns-clause-some
 returns-clause-some g c =
