@@ -7,13 +7,12 @@ use Rattle.ov_model.specs.declared.line.Line.{Line}
 use Rattle.ov_model.specs.declared.place.Place.{Place}
 use Rattle.ov_model.specs.Legal.{lane_lines}
 use Rattle.ov_share.specs.Added.{HasAdded}
-use Rattle.ov_share.specs.Passings.{Passing}
 use Rattle.ov_lane.specs.Passes.{Shared}
 use Rattle.ov_core.proofs.Seats.{set_case, all_at, map_set}
 use Rattle.ov_lanes.specs.Heads.{HeadRuns}
 use Rattle.ov_lanes.specs.Jobs.{Lane, Stands, RanNext, AllSaw, HaveMet, AllRanOut, AreAtWork, AreAtHead, AreBehindHead, HaveRunAll, RanOut, are_on, next_of, passes_of, IsReady}
 use Rattle.ov_lanes.proofs.Running.{next_of_lane, head_answers}
-use Rattle.ov_lanes.proofs.Keeping.{KeepsAndStands, keeps_ran, all_from, work_kept, work_set}
+use Rattle.ov_lanes.proofs.Keeping.{keeps_ran, all_from, work_kept, work_set}
 use Rattle.ov_lanes.proofs.Meeting.{head_met, pass_at}
 use Rattle.ov_course.specs.Courses.{IsFrom}
 

@@ -1,5 +1,5 @@
 -- Behind the head each lane runs out.
-use Rattle.std.proofs.Common.{ℕ, ◌≡◌, List, ◌++◌, length, take, drop, sym, ◌∙◌, ap, subst}
+use Rattle.std.proofs.Common.{◌≡◌, List, ◌++◌, length, take, drop, sym, ◌∙◌, ap, subst}
 use Rattle.std.proofs.lemmas.List.{length-map, with_items_is}
 use Rattle.ov_model.specs.declared.line.Line.{Line}
 use Rattle.ov_lanes.specs.Jobs.{Lane, AreAtHead, AreBehindHead, AllRanOut, HaveRunAll}

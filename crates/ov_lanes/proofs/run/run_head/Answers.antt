@@ -1,10 +1,9 @@
 -- A lane meets that of the line before, and runs the head's next line.
-use Rattle.std.proofs.Common.{ℕ, ◌≡◌, ◌+◌, ◌<◌, ◌≤◌, List, ◌++◌, length, take, drop, slice_index_or, false, sym, ◌∙◌, ap, subst, refl, arith}
-use Rattle.std.specs.Prelude.{slice_set}
+use Rattle.std.proofs.Common.{ℕ, ◌≡◌, ◌<◌, List, length, slice_index_or, sym, ◌∙◌, ap, subst, refl, arith}
 use Rattle.std.specs.List.{AllByRecursion}
 use Rattle.std.proofs.lemmas.List.{length-set, with_items_is}
-use Rattle.ov_lanes.specs.Jobs.{Lane, AllSaw, AreAtHead, AreAtWork, are_on}
-use Rattle.ov_lanes.proofs.Leading.{IsTurn, turn, turn_within, head_left, head_next, next_work, next_off, index_set}
+use Rattle.ov_lanes.specs.Jobs.{Lane, AreAtHead}
+use Rattle.ov_lanes.proofs.Leading.{turn, turn_within, head_left, head_next, next_work, next_off, index_set}
 use Rattle.ov_lanes.proofs.run.run_head.Goals as goal
 
 pub loop-lane-init : goal.loop-lane-init
