@@ -7,7 +7,7 @@ use Rattle.std.specs.Vec.{vec_capacity}
 use Rattle.std.specs.declared.vec.Vec.{Vec}
 use Rattle.std.specs.declared.alloc.Global.{Global}
 use Rattle.std.proofs.lemmas.Bool.{cases_eq, eq-eqb, ne_eqb}
-use Rattle.std.proofs.lemmas.List.{length-set, append_assoc, reverse-append, reverse-reverse, take_at}
+use Rattle.std.proofs.lemmas.List.{length-set, append_assoc, reverse-append, reverse-reverse, length-reverse, take_at}
 use Rattle.std.proofs.lemmas.List.Elements.{filter-append, All-from_recursion, All-get_or}
 use Rattle.std.proofs.lemmas.Option.{none-some, same_Some, slice_get_within, get_or_from_slice_get}
 use Rattle.ov_base.specs.declared.address.Addr.{Addr}
@@ -127,6 +127,15 @@ fresh_one : (o : Shared) (b : ℕ) (xs ys : List Passing) (p : Passing) → AreF
 fresh_one o b [] ys p fresh = let same : b ≡ b + 0 = omega arith in subst (λ n. IsFresh o n p) same fresh.0
 fresh_one o b (x ∷ xs) ys p fresh = let same : suc b + length xs ≡ b + suc (length xs) = omega arith in subst (λ n. IsFresh o n p) same (fresh_one o (suc b) xs ys p fresh.1)
 
+lanes_counted : (o : Shared) (passes : List Passing) (dealt : List (Vec Line Global)) → length passes ≡ length dealt → length (lanes_of o passes dealt) ≡ length dealt
+lanes_counted o [] dealt count = count
+lanes_counted o (p ∷ passes) [] count = refl
+lanes_counted o (p ∷ passes) (own ∷ dealt) count = ap suc (lanes_counted o passes dealt (omega arith))
+
+pub many_seated : (o : Shared) (count : ℕ) (passes passes' : List Passing) (dealt dealt' : List (Vec Line Global)) (rooms rooms' : List (Vec Answer Global)) (lanes : List Lane) → Seats o count passes passes' dealt dealt' rooms rooms' lanes → length lanes ≡ count
+many_seated o count passes passes' dealt dealt' rooms rooms' lanes seats =
+    ap length seats.are ∙ length-reverse (lanes_of o seats.some_passes seats.some_dealt) ∙ lanes_counted o seats.some_passes seats.some_dealt (seats.passes_left.counted ∙ sym seats.dealt_left.counted) ∙ seats.dealt_left.counted
+
 -- What the next lane is made of.
 pub record IsNextSeat (o : Shared) (p : Passing) (own : Vec Line Global) (answers : Vec Answer Global) : Type 0 where
   pub number : ℕ
@@ -206,7 +215,7 @@ new_stands o number p own fresh =
       replays = all_weaker (λ (shard : List ReplayEntry). shard ≡ []) (LinesRise p.number) (λ shard is. rw is tt) shards none;
       judged_placed = all_weaker (λ (shard : List ReplayEntry). shard ≡ []) (AllByRecursion (λ (r : ReplayEntry). r.place.lane ≡ p.number)) (λ shard is. rw is tt) shards none;
       drawn = fresh.nothing.drawn;
-      rises = λ key. tt;
+      rises = λ key i j d below least. absurd (omega arith);
       spent = rw made tt;
     }
 
@@ -234,11 +243,6 @@ passes_seated o [] dealt count = refl
 passes_seated o (p ∷ passes) [] count = absurd (omega arith)
 passes_seated o (p ∷ passes) (own ∷ dealt) count = ap (λ ps. p ∷ ps) (passes_seated o passes dealt (omega arith))
 
-lanes_counted : (o : Shared) (passes : List Passing) (dealt : List (Vec Line Global)) → length passes ≡ length dealt → length (lanes_of o passes dealt) ≡ length dealt
-lanes_counted o [] dealt count = count
-lanes_counted o (p ∷ passes) [] count = refl
-lanes_counted o (p ∷ passes) (own ∷ dealt) count = ap suc (lanes_counted o passes dealt (omega arith))
-
 all_fresh : (o : Shared) (b : ℕ) (passes : List Passing) (i : ℕ) (p : Passing) → AreFreshFrom o b passes → slice_get passes i ≡ Some p → IsFresh o (b + i) p
 all_fresh o b [] i p fresh at = absurd (none-some p at)
 all_fresh o b (q ∷ passes) zero p fresh at = let same : b ≡ b + 0 = omega arith in subst (IsFresh o (b + 0)) (same_Some q p at) (subst (λ n. IsFresh o n q) same fresh.0)
@@ -248,7 +252,9 @@ all_fresh o b (q ∷ passes) (suc i) p fresh at = let same : suc b + i ≡ b + s
 lanes_seated : (o : Shared) (lines : List Line) (passes : List Passing) (dealt : List (Vec Line Global)) → AreFresh o (length dealt) passes → AreAllPasses o passes → AreDealt lines (length dealt) dealt → AllByRecursion IsReady (lanes_of o passes dealt) → AreSeated o lines (length dealt) (lanes_of o passes dealt)
 lanes_seated o lines passes dealt fresh all are ready =
     let lanes : List Lane = lanes_of o passes dealt in
-    let seat : (i : ℕ) (lane : Lane) → slice_get lanes i ≡ Some lane → SeatAt o i i dealt lane = λ i lane at. seat_at o 0 passes dealt i lane fresh.each at in
+    let from_none : (i : ℕ) → 0 + i ≡ i = λ i. omega arith in
+    let seat : (i : ℕ) (lane : Lane) → slice_get lanes i ≡ Some lane → SeatAt o i i dealt lane = λ i lane at. subst (λ n. SeatAt o n i dealt lane) (from_none i) (seat_at o 0 passes dealt i lane fresh.each at) in
+    let new : (i : ℕ) (p : Passing) → slice_get passes i ≡ Some p → IsFresh o i p = λ i p at. subst (λ n. IsFresh o n p) (from_none i) (all_fresh o 0 passes i p fresh.each at) in
     let same : passes ≡ passes_of lanes = sym (passes_seated o passes dealt fresh.counted) in
     record {
       head = record {
@@ -261,8 +267,8 @@ lanes_seated o lines passes dealt fresh all are ready =
         };
         on = all_from (λ (lane : Lane). lane.stopped ≡ false) lanes (λ i lane at. ap (λ (l : Lane). l.stopped) (seat i lane at).is);
         low = 0;
-        runs = head_begins lines 0 (passes_of lanes) (none_run lines (passes_of lanes) (λ i p at. let its = all_fresh o 0 passes i p fresh.each (ap (λ ps. slice_get ps i) same ∙ at) in (its.number_is, its.lines)))
-          (subst (AllByRecursion (λ (p : Passing). p.share.sight.own ≡ [])) same (all_from (λ (p : Passing). p.share.sight.own ≡ []) passes (λ i p at. (all_fresh o 0 passes i p fresh.each at).nothing.own)));
+        runs = head_begins lines 0 (passes_of lanes) (none_run lines (passes_of lanes) (λ i p at. let its = new i p (ap (λ ps. slice_get ps i) same ∙ at) in (its.number_is, its.lines)))
+          (subst (AllByRecursion (λ (p : Passing). p.share.sight.own ≡ [])) same (all_from (λ (p : Passing). p.share.sight.own ≡ []) passes (λ i p at. (new i p at).nothing.own)));
         saw = λ lane at. omega arith;
       };
       counted = lanes_counted o passes dealt fresh.counted;
