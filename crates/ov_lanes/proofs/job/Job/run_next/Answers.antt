@@ -1,8 +1,9 @@
-use Rattle.std.proofs.Common.{◌≡◌, ◌<◌, ◌++◌, ◌∷◌, [], length, refl, ap, sym, ◌∙◌, arith}
+use Rattle.std.proofs.Common.{◌≡◌, ◌<◌, ◌++◌, ◌∷◌, [], length, ap, sym, subst, ◌∙◌, arith}
 use Rattle.std.specs.Prelude.{Some, slice_get}
 use Rattle.std.proofs.lemmas.Option.{slice_get-get_or}
 use Rattle.ov_desk.specs.Sittings.{at_rest}
 use Rattle.ov_lanes.specs.declared.job.Job.TheInside.{Inside}
+use Rattle.ov_lanes.specs.Jobs.{Lane}
 use Rattle.ov_lanes.proofs.Working.{IsSat, parts_answered, parts_stopped}
 use Rattle.ov_lanes.proofs.job.Job.run_next.Goals.{in-Ok, in-Err}
 use Rattle.ov_lanes.proofs.job.Job.run_next.Goals as goal
@@ -22,7 +23,7 @@ returns g c =
       rests = c.run_line-ran.ensures.rests;
     } in
     let next : length c.as_slice-next.result.now ≡ length c.self.inside.answers.items = ap length c.as_slice-next.ensures.value in
-    let left : length c.self.inside.answers.items < length c.self.inside.lines.items = rw (c.self.view_is) c.requires.left in
+    let left : length c.self.inside.answers.items < length c.self.inside.lines.items = subst (λ (l : Lane). length l.answers < length l.lines) (sym c.self.view_is) c.requires.left in
     let at : slice_get c.self.inside.lines.items (length c.self.inside.answers.items) ≡ Some c.index.result.now =
       rw (← next) (slice_get-get_or c.self.inside.lines.items (length c.as_slice-next.result.now) c.index.result.now (omega (arith, next, left)) ∙ ap (λ x. Some x) (sym c.index.ensures)) in
     elim c.match-ran.branch [
