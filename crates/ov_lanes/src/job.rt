@@ -61,13 +61,14 @@ impl<'a> Job<'a> {
         requires unanswered { length answers.items ≡ 0 }
         requires room { length lines.items ≤ vec_capacity answers }
         requires fits { AllByRecursion (λ line. Fits line.deed) lines.items }
-        ensures { result ≡ record {
+        ensures value { result ≡ record {
           table = ovpn.now;
           pass = pass;
           lines = lines.items;
           answers = answers.items;
           stopped = false;
         } }
+        ensures ready { IsReady result }
     {
         Job {
             ovpn,
