@@ -140,6 +140,11 @@ pub record HaveRunAll (o : Shared) (lines : List Line) (n count : ℕ) (lanes : 
   pub counted : length lanes ≡ count
   pub behind : are_on lanes → RanBehind o lines n lanes
 
+-- What lanes are to run: the script's lines, and how many of these are the head.
+pub record Beginning : Type 0 where
+  pub lines : List Line
+  pub head : ℕ
+
 -- What lanes run: at which table, the script's lines, and how many of these are the head.
 pub record Setting : Type 0 where
   pub table : Shared

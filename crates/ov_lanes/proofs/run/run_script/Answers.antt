@@ -1,0 +1,28 @@
+use Rattle.std.proofs.Common.{rules, ◌≡◌, ◌<◌, ◌≤◌, List, [], None, true, length, map, take, IfOk, IfSome, ℕ, ◌+◌, ◌-◌, ◌*◌, ◌/◌, ◌%◌, Bool, false, nat_eq, nat_lt, ◌∷◌, ◌++◌, slice_index_or, slice_set, bit_and, bit_or, w8, w32, w64, Bor, MutBor}
+use Rattle.std.specs.List.{AllByRecursion}
+use Rattle.std.specs.Vec.{vec_capacity}
+use Rattle.ov_model.specs.Legal.{Legal}
+use Rattle.ov_model.specs.declared.line.Line.{Line}
+use Rattle.ov_model.specs.Sizes.{Fits}
+use Rattle.ov_lane.specs.Passes.{Shared, AreFresh, AreAllPasses}
+use Rattle.ov_lanes.specs.Dealt.{AreDealt, HaveRoom, AreSeated}
+use Rattle.ov_lanes.specs.Jobs.{Beginning, Setting, AreAtWork, AreAtHead, AreBehindHead, AllRanOut, AllSaw, HaveMet, HaveRunAll, LaneSaw, RanOut, are_on, passes_of, log_of}
+use Rattle.ov_lanes.specs.Threads.{HeadFirst}
+use Rattle.ov_lanes.specs.Rans.{ArePlain, report_of}
+use Rattle.ov_lanes.proofs.run.run_script.Goals as goal
+
+-- src/run.rt:112:5
+pub run_seated-requires : goal.run_seated-requires
+run_seated-requires g c κs within = ?
+
+-- src/run.rt:95:1
+pub returns-then-all-clause-legal : goal.returns-then-all-clause-legal
+returns-then-all-clause-legal g c = ?
+
+-- src/run.rt:95:1
+pub returns-then-all-clause-head : goal.returns-then-all-clause-head
+returns-then-all-clause-head g c = ?
+
+-- src/run.rt:95:1
+pub returns-then-all-clause-plain : goal.returns-then-all-clause-plain
+returns-then-all-clause-plain g c = ?
