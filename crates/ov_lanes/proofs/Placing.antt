@@ -1,6 +1,6 @@
 -- Lines are dealt to their lanes, and lanes are put together and taken apart.
-use Rattle.std.proofs.Common.{ℕ, zero, suc, ◌≡◌, ◌<◌, List, [], ◌∷◌, ◌++◌, length, refl, sym, ◌∙◌, ap, subst, arith, inl, inr, append-nil, if◌then◌else◌, slice_index_or, ◌==◌}
-use Rattle.std.specs.Prelude.{Some, None, filter, get_or, slice_get, slice_set}
+use Rattle.std.proofs.Common.{ℕ, zero, suc, ◌≡◌, ◌<◌, List, [], ◌∷◌, ◌++◌, length, refl, sym, ◌∙◌, ap, subst, inl, inr, append-nil, if◌then◌else◌, slice_index_or, ◌==◌}
+use Rattle.std.specs.Prelude.{Some, None, get_or, slice_get, slice_set}
 use Rattle.std.specs.List.{AllByRecursion}
 use Rattle.std.specs.declared.vec.Vec.{Vec}
 use Rattle.std.specs.declared.alloc.Global.{Global}
