@@ -8,7 +8,7 @@ use Rattle.ov_model.specs.declared.place.Place.{Place}
 use Rattle.ov_model.specs.Legal.{lane_lines}
 use Rattle.ov_share.specs.Added.{HasAdded}
 use Rattle.ov_lane.specs.Passes.{Shared}
-use Rattle.ov_core.proofs.Seats.{set_case, all_at, map_set}
+use Rattle.ov_core.proofs.Seats.{set_case, set_here, same_some, all_at, map_set}
 use Rattle.ov_lanes.specs.Heads.{HeadRuns}
 use Rattle.ov_lanes.specs.Jobs.{Lane, Stands, RanNext, AllSaw, HaveMet, AllRanOut, AreAtWork, AreAtHead, AreBehindHead, HaveRunAll, RanOut, are_on, next_of, passes_of, IsReady}
 use Rattle.ov_lanes.proofs.Running.{next_of_lane, head_answers}
@@ -62,23 +62,6 @@ head_left o lines n lane lanes own head its at =
 
 -- ---- a lane ran its next line
 
-set_here : {X : Type 0} (xs : List X) (i : ℕ) (new x : X) → slice_get (slice_set xs i new) i ≡ Some x → x ≡ new
-set_here xs i new x at = elim (set_case xs i i new x at) [
-  | inl here ↦ here.1
-  | inr others ↦ absurd (others.0 refl)
-]
-
-set_there : {X : Type 0} (xs : List X) (i : ℕ) (old new : X) → slice_get xs i ≡ Some old → slice_get (slice_set xs i new) i ≡ Some new
-set_there [] i old new at = absurd (none-some old at)
-set_there (x ∷ xs) zero old new at = refl
-set_there (x ∷ xs) (suc i) old new at = set_there xs i old new at
-
--- What is read where it was set.
-pub index_set : {X : Type 0} (xs : List X) (i : ℕ) (new d : X) → i < length xs → slice_index_or (slice_set xs i new) i d ≡ new
-index_set [] i new d below = absurd (omega arith)
-index_set (x ∷ xs) zero new d below = refl
-index_set (x ∷ xs) (suc i) new d below = index_set xs i new d (omega arith)
-
 -- Whether it was answered or not, all are at work.
 pub next_work : (o : Shared) (lines : List Line) (lanes : List Lane) (i : ℕ) (own new : Lane) → AreAtWork o lines lanes → are_on lanes → slice_get lanes i ≡ Some own → RanNext own new → AreAtWork o lines (slice_set lanes i new)
 next_work o lines lanes i own new work on at ran =
@@ -88,7 +71,7 @@ next_work o lines lanes i own new work on at ran =
 -- Where its line was stopped, not all are on.
 pub next_off : (lanes : List Lane) (i : ℕ) (own new : Lane) → slice_get lanes i ≡ Some own → new.stopped ≡ true → are_on (slice_set lanes i new) → ⊥
 next_off lanes i own new at stopped on =
-    let still : new.stopped ≡ false = all_at (λ (l : Lane). l.stopped ≡ false) (slice_set lanes i new) i new on (set_there lanes i own new at) in
+    let still : new.stopped ≡ false = all_at (λ (l : Lane). l.stopped ≡ false) (slice_set lanes i new) i new on (set_here lanes i new own at) in
     cc (still, stopped)
 
 -- Where it was answered, one line more of the head is over.
@@ -112,7 +95,7 @@ head_next o lines n lane lanes own new head its at ran on =
       ]);
       low = length new.pass.share.sight.seen;
       runs = subst (HeadRuns lines (n + 1) (length new.pass.share.sight.seen)) there runs;
-      saw = λ l is. subst (λ (x : Lane). length new.pass.share.sight.seen ≤ length x.pass.share.sight.seen) (sym (set_here lanes lane new l is)) (omega arith);
+      saw = λ l is. subst (λ (x : Lane). length new.pass.share.sight.seen ≤ length x.pass.share.sight.seen) (same_some (slice_get (slice_set lanes lane new) lane) new l (set_here lanes lane new own at) is) (omega arith);
     }
 
 -- ---- behind the head

@@ -2,8 +2,9 @@
 use Rattle.std.proofs.Common.{ℕ, ◌≡◌, ◌<◌, List, length, slice_index_or, sym, ◌∙◌, ap, subst, refl, arith}
 use Rattle.std.specs.List.{AllByRecursion}
 use Rattle.std.proofs.lemmas.List.{length-set, with_items_is}
+use Rattle.ov_core.proofs.Seats.{set_own}
 use Rattle.ov_lanes.specs.Jobs.{Lane, AreAtHead}
-use Rattle.ov_lanes.proofs.Leading.{turn, turn_within, head_left, head_next, next_work, next_off, index_set}
+use Rattle.ov_lanes.proofs.Leading.{turn, turn_within, head_left, head_next, next_work, next_off}
 use Rattle.ov_lanes.proofs.run.run_head.Goals as goal
 
 pub loop-lane-init : goal.loop-lane-init
@@ -56,7 +57,7 @@ returns-then-stopped-clause-stopped g c =
     let its = turn g.it.table g.it.lines g.it.head (length c.args.jobs.now.items) c.args.order.now c.loop-lane.lane-index c.loop-lane.last c.loop-lane.jobs.items c.as_mut_slice.result.now c.meet.new.jobs _ own
       c.requires.1.1.1.0 c.requires.1.1.1.1.0 c.loop-lane-test.true c.loop-lane.invariant.head c.loop-lane.invariant.within c.loop-lane.invariant.count c.as_mut_slice.ensures.value left c.meet.ensures.saw c.meet.ensures.met c.index_mut.ensures.value in
     let new : Lane = c.run_next.new.self in
-    let is : c.index.result.now ≡ new = c.index.ensures ∙ index_set _ lane new c.index.result.now its.here in
+    let is : c.index.result.now ≡ new = c.index.ensures ∙ set_own _ lane new c.index.result.now its.here in
     λ none on. next_off _ lane own new its.at (sym (ap (λ (l : Lane). l.stopped) is) ∙ sym c.stopped.ensures ∙ c.if-stopped.true) on
 
 pub loop-lane-preserved : goal.loop-lane-preserved
@@ -67,7 +68,7 @@ loop-lane-preserved g c =
     let its = turn g.it.table g.it.lines g.it.head (length c.args.jobs.now.items) c.args.order.now c.loop-lane.lane-index c.loop-lane.last c.loop-lane.jobs.items c.as_mut_slice.result.now c.meet.new.jobs _ own
       c.requires.1.1.1.0 c.requires.1.1.1.1.0 c.loop-lane-test.true c.loop-lane.invariant.head c.loop-lane.invariant.within c.loop-lane.invariant.count c.as_mut_slice.ensures.value left c.meet.ensures.saw c.meet.ensures.met c.index_mut.ensures.value in
     let new : Lane = c.run_next.new.self in
-    let is : c.index.result.now ≡ new = c.index.ensures ∙ index_set _ lane new c.index.result.now its.here in
+    let is : c.index.result.now ≡ new = c.index.ensures ∙ set_own _ lane new c.index.result.now its.here in
     record {
       head = head_next g.it.table g.it.lines c.loop-lane.lane-index lane _ own new its.head its.line its.at c.run_next.ensures (sym (ap (λ (l : Lane). l.stopped) is) ∙ sym c.stopped.ensures ∙ c.if-stopped.false);
       within = subst (λ n. lane < n) (sym (length-set _ lane new)) its.here;
