@@ -1,9 +1,8 @@
 -- Lines are dealt to their lanes, and lanes are put together and taken apart.
 use Rattle.std.proofs.Common.{ℕ, zero, suc, ◌≡◌, ◌<◌, List, [], ◌∷◌, ◌++◌, length, refl, sym, ◌∙◌, ap, subst, arith, inl, inr, append-nil, if◌then◌else◌, slice_index_or, ◌==◌, ◌+◌, ◌≤◌, false, map, length-append}
-use Rattle.std.specs.Prelude.{Some, None, filter, get_or, slice_get, slice_set, take, drop, reverse}
+use Rattle.std.specs.Prelude.{Some, None, get_or, slice_get, slice_set, take, drop, reverse}
 use Rattle.std.specs.List.{AllByRecursion, range_with_len}
 use Rattle.std.specs.Option.{option_to_list}
-use Rattle.std.specs.Vec.{vec_capacity}
 use Rattle.std.specs.declared.vec.Vec.{Vec}
 use Rattle.std.specs.declared.alloc.Global.{Global}
 use Rattle.std.proofs.lemmas.Bool.{cases_eq, eq-eqb, ne_eqb}
@@ -22,10 +21,9 @@ use Rattle.ov_model.specs.Via.{via_of}
 use Rattle.ov_model.proofs.Lanes.{all_weaker, shown_in_none}
 use Rattle.ov_model.proofs.Parts.{filter_all}
 use Rattle.ov_replay.specs.Desk.{part_at}
-use Rattle.ov_share.specs.Keepings.{LaneKept, replays_of}
-use Rattle.ov_share.specs.Makings.{SpendKnown}
+use Rattle.ov_share.specs.Keepings.{replays_of}
 use Rattle.ov_share.specs.Passings.{Passing}
-use Rattle.ov_lane.specs.Passes.{Shared, HasNothing, IsFresh, AreFreshFrom, AreFresh, AreAllPasses}
+use Rattle.ov_lane.specs.Passes.{Shared, IsFresh, AreFreshFrom, AreFresh, AreAllPasses}
 use Rattle.ov_lanes.specs.Dealt.{AreDealt, IsRoom, HaveRoom, AreSeated, Takes, Seats, new_lane, lanes_of}
 use Rattle.ov_lanes.specs.Jobs.{Lane, IsReady, Stands, RanOut, AllRanOut, passes_of}
 use Rattle.ov_lanes.proofs.Keeping.{all_from}
