@@ -163,21 +163,18 @@ next_seat o lines count passes passes' passes'' dealt dealt' dealt'' rooms rooms
 
 -- One lane more.
 pub one_seated : (o : Shared) (count : ℕ) (passes passes' passes'' : List Passing) (dealt dealt' dealt'' : List (Vec Line Global)) (rooms rooms' rooms'' : List (Vec Answer Global)) (lanes lanes' : List Lane) (lane : Lane) (p : Passing) (own : Vec Line Global) (answers : Vec Answer Global)
-    → Seats o count passes passes' dealt dealt' rooms rooms' lanes → IsNextSeat o p own answers
-    → passes' ≡ passes'' ++ option_to_list (Some p) → dealt' ≡ dealt'' ++ option_to_list (Some own) → rooms' ≡ rooms'' ++ option_to_list (Some answers)
-    → lane ≡ record { table = o; pass = p; lines = own.items; answers = answers.items; stopped = false } → IsReady lane → lanes' ≡ lanes ++ lane ∷ [] → Seats o (count + 1) passes passes'' dealt dealt'' rooms rooms'' lanes'
-one_seated o count passes passes' passes'' dealt dealt' dealt'' rooms rooms' rooms'' lanes lanes' lane p own answers seats next pass_is own_is answers_is made ready more =
-    let new : lane ≡ new_lane o p own = made ∙ ap (λ (x : List Answer). record { table = o; pass = p; lines = own.items; answers = x; stopped = false }) next.room.none in
-    record {
-      some_passes = p ∷ seats.some_passes;
-      some_dealt = own ∷ seats.some_dealt;
-      some_rooms = answers ∷ seats.some_rooms;
-      passes_left = one_taken count passes passes' passes'' seats.some_passes p pass_is seats.passes_left;
-      dealt_left = one_taken count dealt dealt' dealt'' seats.some_dealt own own_is seats.dealt_left;
-      rooms_left = one_taken count rooms rooms' rooms'' seats.some_rooms answers answers_is seats.rooms_left;
-      are = more ∙ ap (λ l. l ++ lane ∷ []) seats.are ∙ ap (λ l. reverse (lanes_of o seats.some_passes seats.some_dealt) ++ l ∷ []) new ∙ sym (reverse-append (new_lane o p own ∷ []) (lanes_of o seats.some_passes seats.some_dealt));
-      ready = (subst IsReady new ready, seats.ready);
-    }
+    → Seats o count passes passes' dealt dealt' rooms rooms' lanes → passes' ≡ passes'' ++ option_to_list (Some p) → dealt' ≡ dealt'' ++ option_to_list (Some own) → rooms' ≡ rooms'' ++ option_to_list (Some answers)
+    → lane ≡ new_lane o p own → IsReady lane → lanes' ≡ lanes ++ lane ∷ [] → Seats o (count + 1) passes passes'' dealt dealt'' rooms rooms'' lanes'
+one_seated o count passes passes' passes'' dealt dealt' dealt'' rooms rooms' rooms'' lanes lanes' lane p own answers seats pass_is own_is answers_is new ready more = record {
+  some_passes = p ∷ seats.some_passes;
+  some_dealt = own ∷ seats.some_dealt;
+  some_rooms = answers ∷ seats.some_rooms;
+  passes_left = one_taken count passes passes' passes'' seats.some_passes p pass_is seats.passes_left;
+  dealt_left = one_taken count dealt dealt' dealt'' seats.some_dealt own own_is seats.dealt_left;
+  rooms_left = one_taken count rooms rooms' rooms'' seats.some_rooms answers answers_is seats.rooms_left;
+  are = more ∙ ap (λ l. l ++ lane ∷ []) seats.are ∙ ap (λ l. reverse (lanes_of o seats.some_passes seats.some_dealt) ++ l ∷ []) new ∙ sym (reverse-append (new_lane o p own ∷ []) (lanes_of o seats.some_passes seats.some_dealt));
+  ready = (subst IsReady new ready, seats.ready);
+}
 
 -- ---- lanes before their first lines
 
