@@ -1,5 +1,5 @@
 -- Each lane is made of the last pass, the last lines and the last room that are left.
-use Rattle.std.proofs.Common.{◌≡◌, length, ◌∙◌, refl, ap, arith}
+use Rattle.std.proofs.Common.{◌≡◌, length, ◌∙◌, refl, arith}
 use Rattle.ov_lanes.proofs.Placing.{IsNextSeat, next_seat, none_seated, one_seated, many_seated, all_seated}
 use Rattle.ov_lanes.proofs.run.seat.Given.{Over}
 use Rattle.ov_lanes.proofs.run.seat.Goals as goal
