@@ -1,5 +1,5 @@
 -- Each lane is made of the last pass, the last lines and the last room that are left.
-use Rattle.std.proofs.Common.{◌≡◌, ◌<◌, ◌≤◌, length, sym, ◌∙◌, refl, ap, arith}
+use Rattle.std.proofs.Common.{◌≡◌, length, ◌∙◌, refl, arith}
 use Rattle.ov_lanes.proofs.Placing.{IsNextSeat, next_seat, none_seated, one_seated, many_seated, all_seated}
 use Rattle.ov_lanes.proofs.run.seat.Given.{Over}
 use Rattle.ov_lanes.proofs.run.seat.Goals as goal
@@ -20,7 +20,7 @@ pub new-requires-clause-none : goal.new-requires-clause-none
 new-requires-clause-none g c = (next g c).fresh.lines
 
 pub new-requires-clause-unanswered : goal.new-requires-clause-unanswered
-new-requires-clause-unanswered g c = ap length (next g c).room.none
+new-requires-clause-unanswered g c = (next g c).room.none
 
 pub new-requires-clause-room : goal.new-requires-clause-room
 new-requires-clause-room g c = (next g c).room.room
@@ -36,8 +36,7 @@ push_reserved-requires g c =
 pub loop-lane-preserved : goal.loop-lane-preserved
 loop-lane-preserved g c = record {
   seats = one_seated c.args.ovpn.now c.loop-lane._lane c.args.passes.items c.loop-lane.passes.items c.pop.new.self.items c.args.dealt.items c.loop-lane.dealt.items c.pop-in-loop-lane.new.self.items c.args.rooms.items c.loop-lane.rooms.items c.pop-in-loop-lane-2.new.self.items c.loop-lane.jobs.items c.push_reserved.new.self.items c.new.result c.in-Some-Some-Some.pass c.in-Some-Some-Some.lines c.in-Some-Some-Some.answers
-    c.loop-lane.invariant.seats (next_seat c.args.ovpn.now g.lines c.loop-lane._lane c.args.passes.items c.loop-lane.passes.items c.pop.new.self.items c.args.dealt.items c.loop-lane.dealt.items c.pop-in-loop-lane.new.self.items c.args.rooms.items c.loop-lane.rooms.items c.pop-in-loop-lane-2.new.self.items c.loop-lane.jobs.items c.in-Some-Some-Some.pass c.in-Some-Some-Some.lines c.in-Some-Some-Some.answers c.requires.0 c.requires.1.1.0 c.requires.1.1.1.0 c.requires.1.1.1.1.0 c.loop-lane.invariant.seats c.in-Some-Some-Some.ensures.items c.in-Some-Some-Some.ensures'.items c.in-Some-Some-Some.ensures''.items)
-    c.in-Some-Some-Some.ensures.items c.in-Some-Some-Some.ensures'.items c.in-Some-Some-Some.ensures''.items c.new.ensures.value c.new.ensures.ready c.push_reserved.ensures.items;
+    c.loop-lane.invariant.seats c.in-Some-Some-Some.ensures.items c.in-Some-Some-Some.ensures'.items c.in-Some-Some-Some.ensures''.items c.new.ensures.value c.new.ensures.ready c.push_reserved.ensures.items;
   room = c.push_reserved.ensures.capacity ∙ c.loop-lane.invariant.room;
   most = omega (arith, c.loop-lane-test.true, c.as_slice-count.ensures.len, c.args.dealt.ok.0);
 }
