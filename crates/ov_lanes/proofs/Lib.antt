@@ -14,3 +14,5 @@ pub mod Placing
 pub mod Meeting
 -- The head's lines run one after the other, and then each lane's.
 pub mod Leading
+-- All lines were run and the table is closed.
+pub mod Ended

@@ -1,16 +1,18 @@
-use Rattle.std.proofs.Common.{rules, ◌≡◌, ◌<◌, ◌≤◌, List, [], None, true, length, map, take, IfOk, IfSome, ℕ, ◌+◌, ◌-◌, ◌*◌, ◌/◌, ◌%◌, Bool, false, nat_eq, nat_lt, ◌∷◌, ◌++◌, slice_index_or, slice_set, bit_and, bit_or, w8, w32, w64, Bor, MutBor}
+-- The lanes are before their first lines.
+use Rattle.std.proofs.Common.{ℕ, ◌≡◌, ◌<◌, ◌≤◌, length, sym, subst}
 use Rattle.std.specs.List.{AllByRecursion}
-use Rattle.std.specs.Vec.{vec_capacity}
-use Rattle.ov_model.specs.Legal.{Legal}
+use Rattle.ov_lane.specs.Passes.{Shared}
 use Rattle.ov_model.specs.declared.line.Line.{Line}
-use Rattle.ov_model.specs.Sizes.{Fits}
-use Rattle.ov_lane.specs.Passes.{Shared, AreFresh, AreAllPasses}
-use Rattle.ov_lanes.specs.Dealt.{AreDealt, HaveRoom, AreSeated}
-use Rattle.ov_lanes.specs.Jobs.{Beginning, Setting, AreAtWork, AreAtHead, AreBehindHead, AllRanOut, AllSaw, HaveMet, HaveRunAll, LaneSaw, RanOut, are_on, passes_of, log_of}
-use Rattle.ov_lanes.specs.Threads.{HeadFirst}
-use Rattle.ov_lanes.specs.Rans.{ArePlain, report_of}
+use Rattle.ov_lanes.specs.Jobs.{AreAtHead}
 use Rattle.ov_lanes.proofs.run.run_seated.Goals as goal
 
--- src/run.rt:225:5
 pub run_all-requires : goal.run_all-requires
-run_all-requires g c κs within = ?
+run_all-requires g c κs within =
+    let its = c.requires.1.1.1.1 in
+    let count : length c.args.dealt.items ≡ length c.seat.new.jobs.items = sym c.seat.ensures.counted in
+    (within.0, (within.1, (c.requires.1.1.0, (c.requires.1.1.1.0,
+      (subst (λ (o : Shared). AreAtHead o g.it.lines 0 0 c.seat.new.jobs.items) (sym its.0) c.seat.ensures.head,
+      (its.1.1.1.1.1.1.1.0,
+      (subst (λ n. AllByRecursion (λ (line : Line). line.lane < n) g.it.lines) count its.1.1.1.1.1.1.0,
+      (subst (λ n. 1 ≤ n) count its.1.1.1.1.1.1.1.1.1.1.0,
+      subst (λ n. n ≤ 64) count its.1.1.1.1.1.1.1.1.1.1.1))))))))
