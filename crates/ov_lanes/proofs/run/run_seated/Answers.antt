@@ -1,5 +1,5 @@
 -- The lanes are before their first lines.
-use Rattle.std.proofs.Common.{ℕ, ◌≡◌, ◌<◌, ◌≤◌, length, sym, subst}
+use Rattle.std.proofs.Common.{◌≡◌, ◌<◌, ◌≤◌, length, sym, subst}
 use Rattle.std.specs.List.{AllByRecursion}
 use Rattle.ov_lane.specs.Passes.{Shared}
 use Rattle.ov_model.specs.declared.line.Line.{Line}
