@@ -1,5 +1,5 @@
 -- Lanes that ran some of their lines, or saw more, are at work as before.
-use Rattle.std.proofs.Common.{ℕ, suc, ◌≡◌, ◌<◌, List, [], ◌∷◌, length, map, set, refl, sym, ◌∙◌, ap, subst, false, arith, inl, inr}
+use Rattle.std.proofs.Common.{ℕ, suc, ◌≡◌, List, [], ◌∷◌, length, map, refl, sym, ◌∙◌, ap, subst, false, arith, inl, inr}
 use Rattle.std.specs.Prelude.{slice_get, slice_set, Some}
 use Rattle.std.specs.List.{AllByRecursion}
 use Rattle.std.proofs.lemmas.List.{length-set}
@@ -7,21 +7,20 @@ use Rattle.std.proofs.lemmas.Option.{same_Some, slice_get_within}
 use Rattle.ov_base.specs.Sums.{total}
 use Rattle.ov_model.specs.declared.line.Line.{Line}
 use Rattle.ov_model.specs.declared.place.Place.{Place}
-use Rattle.ov_model.specs.Legal.{lane_lines}
 use Rattle.ov_model.specs.Own.{RiseFrom}
 use Rattle.ov_model.specs.Via.{via_of}
 use Rattle.ov_replay.specs.Desk.{Part, part_at, HasLooked}
 use Rattle.ov_turn.proofs.Fronts.{prefix_self}
-use Rattle.ov_share.specs.Shares.{Sharing, IsShareOf}
+use Rattle.ov_share.specs.Shares.{Sharing}
 use Rattle.ov_share.specs.Passings.{Passing}
-use Rattle.ov_lane.specs.Passes.{Shared, IsPassOf, IsFree, AreAllPasses, OnlySaw}
+use Rattle.ov_lane.specs.Passes.{Shared, IsPassOf, IsFree}
 use Rattle.ov_share.specs.Keepings.{LaneKept}
 use Rattle.ov_share.specs.Makings.{SawMore}
 use Rattle.ov_course.specs.Courses.{HasSameShares}
 use Rattle.ov_course.proofs.Keeping.{kept_saw}
 use Rattle.ov_core.proofs.Ending.{At, get_below}
 use Rattle.ov_core.proofs.Seats.{set_case, all_at}
-use Rattle.ov_lanes.specs.Jobs.{Lane, IsReady, Stands, StaysReady, LaneSaw, AreAtWork, passes_of}
+use Rattle.ov_lanes.specs.Jobs.{Lane, IsReady, Stands, StaysReady, LaneSaw, AreAtWork}
 use Rattle.ov_lanes.proofs.Working.{ready_saw}
 
 -- ---- one lane

@@ -12,3 +12,7 @@ pub mod Keeping
 pub mod Placing
 -- Lanes meet, the head's lines run, and then all others.
 pub mod Meeting
+-- The head's lines run one after the other, and then each lane's.
+pub mod Leading
+-- All lines were run and the table is closed.
+pub mod Ended

@@ -1,16 +1,14 @@
 -- What a lane's next line, and all its lines, leave of it.
 use Rattle.std.proofs.Common.{ℕ, ◌≡◌, ◌+◌, ◌<◌, ◌≤◌, ◌-◌, Bool, true, false, List, [], ◌∷◌, ◌++◌, length, refl, sym, ◌∙◌, ap, subst, arith, length-append}
-use Rattle.std.specs.Prelude.{Option, Some, None, slice_get}
-use Rattle.ov_draw.specs.Drawer.{Drawer}
+use Rattle.std.specs.Prelude.{Option, Some, slice_get}
 use Rattle.ov_model.specs.declared.answer.Answer.{Answer}
 use Rattle.ov_model.specs.declared.entry.Entry.{Entry}
 use Rattle.ov_model.specs.declared.line.Line.{Line}
 use Rattle.ov_model.specs.declared.place.Place.{Place}
-use Rattle.ov_replay.specs.Desk.{Part, IsDeskSeat}
+use Rattle.ov_replay.specs.Desk.{IsDeskSeat}
 use Rattle.ov_turn.specs.Seats.{Sight}
 use Rattle.ov_turn.proofs.Fronts.{prefix_self}
 use Rattle.ov_share.specs.Passings.{Passing}
-use Rattle.ov_share.specs.Shares as shares
 use Rattle.ov_share.specs.Shares.{Sharing, IsShareOf}
 use Rattle.ov_share.specs.Keepings.{IsOrderly}
 use Rattle.ov_share.proofs.Adding.{added_none, added_then, added_wider}
@@ -19,7 +17,7 @@ use Rattle.ov_lane.proofs.Ordering.{orderly_saw}
 use Rattle.ov_desk.specs.Sittings.{Sitting, at_rest}
 use Rattle.ov_course.specs.Courses.{RestsAgain, LineAnswered, IsFrom}
 use Rattle.ov_course.proofs.Moving.{shares_itself, shares_on}
-use Rattle.ov_lanes.specs.Jobs.{Lane, IsReady, Stands, StaysReady, AnswersMore, RanNext, RanSome, LaneSaw, next_of}
+use Rattle.ov_lanes.specs.Jobs.{Lane, IsReady, StaysReady, RanNext, RanSome, LaneSaw, next_of}
 use Rattle.ov_lanes.specs.Inner.{IsKept, pass_in}
 
 -- ---- two lanes met

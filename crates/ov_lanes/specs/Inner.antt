@@ -1,5 +1,5 @@
 -- What a lane's pass is, where there is one: it is out only while a line runs.
-use Rattle.std.specs.Prelude.{ℕ, ◌≤◌, [], Option, Some, None, length, List}
+use Rattle.std.specs.Prelude.{ℕ, ◌≤◌, [], Option, Some, None, length}
 use Rattle.ov_draw.specs.Drawer.{Counters}
 use Rattle.ov_share.specs.Passings.{Passing}
 use Rattle.ov_share.specs.Shares.{blank_sight}

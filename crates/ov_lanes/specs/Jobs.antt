@@ -1,5 +1,5 @@
 -- The lanes at work: what each has of its lines, and what running some of these leaves of it.
-use Rattle.std.specs.Prelude.{◌≡◌, ℕ, suc, ◌+◌, ◌-◌, ◌<◌, ◌≤◌, Bool, true, false, List, [], ◌∷◌, Option, Some, None, length, map, filter, ◌==◌, slice_get, take}
+use Rattle.std.specs.Prelude.{◌≡◌, ℕ, ◌+◌, ◌-◌, ◌≤◌, Bool, false, List, [], Some, length, map, slice_get}
 use Rattle.std.specs.List.{AllByRecursion}
 use Rattle.ov_model.specs.declared.answer.Answer.{Answer}
 use Rattle.ov_model.specs.declared.line.Line.{Line}
@@ -139,6 +139,11 @@ pub record HaveRunAll (o : Shared) (lines : List Line) (n count : ℕ) (lanes : 
   pub work : AreAtWork o lines lanes
   pub counted : length lanes ≡ count
   pub behind : are_on lanes → RanBehind o lines n lanes
+
+-- What lanes are to run: the script's lines, and how many of these are the head.
+pub record Beginning : Type 0 where
+  pub lines : List Line
+  pub head : ℕ
 
 -- What lanes run: at which table, the script's lines, and how many of these are the head.
 pub record Setting : Type 0 where

@@ -1,6 +1,6 @@
 //! A lane at work: its pass, its lines and their answers.
 
-ghost use Rattle.std.specs.Prelude.{◌≡◌, ◌<◌, ◌≤◌, ◌-◌, false, length};
+ghost use Rattle.std.specs.Prelude.{◌≡◌, ◌<◌, ◌≤◌, ◌-◌, [], false, length};
 ghost use Rattle.std.specs.Vec.{vec_capacity};
 ghost use Rattle.std.specs.List.{AllByRecursion};
 ghost use Rattle.ov_model.specs.Sizes.{Fits};
@@ -58,16 +58,17 @@ impl<'a> Job<'a> {
         requires of { IsPassOf ovpn.now pass }
         requires free { IsFree pass }
         requires none { pass.lines ≡ 0 }
-        requires unanswered { length answers.items ≡ 0 }
+        requires unanswered { answers.items ≡ [] }
         requires room { length lines.items ≤ vec_capacity answers }
         requires fits { AllByRecursion (λ line. Fits line.deed) lines.items }
-        ensures { result ≡ record {
+        ensures value { result ≡ record {
           table = ovpn.now;
           pass = pass;
           lines = lines.items;
-          answers = answers.items;
+          answers = [];
           stopped = false;
         } }
+        ensures ready { IsReady result }
     {
         Job {
             ovpn,

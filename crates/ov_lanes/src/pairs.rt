@@ -5,12 +5,7 @@ ghost use Rattle.ov_lanes.specs.Pairs.{TakesBoth, ChangesBoth};
 
 /// Calls `f` with the two elements at `low` and `high`. It is generic since what becomes of a slice that is split in two isn't
 /// known where its elements' type names a lifetime.
-pub(crate) fn with_both<T, F: FnOnce(&mut T, &mut T)>(
-    all: &mut [T],
-    low: usize,
-    high: usize,
-    f: F,
-)
+pub(crate) fn with_both<T, F: FnOnce(&mut T, &mut T)>(all: &mut [T], low: usize, high: usize, f: F)
     requires order { low < high }
     requires high { high < length all.old }
     requires takes { TakesBoth F.FnOnce f all.old low high }

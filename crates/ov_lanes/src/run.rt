@@ -8,7 +8,7 @@ ghost use Rattle.ov_model.specs.declared.line.Line.{Line};
 ghost use Rattle.ov_model.specs.Sizes.{Fits};
 ghost use Rattle.ov_lane.specs.Passes.{Shared, AreFresh, AreAllPasses};
 ghost use Rattle.ov_lanes.specs.Dealt.{AreDealt, HaveRoom, AreSeated};
-ghost use Rattle.ov_lanes.specs.Jobs.{Setting, AreAtWork, AreAtHead, AreBehindHead, AllRanOut, AllSaw, HaveMet, HaveRunAll, LaneSaw, RanOut, are_on, passes_of, log_of};
+ghost use Rattle.ov_lanes.specs.Jobs.{Beginning, Setting, AreAtWork, AreAtHead, AreBehindHead, AllRanOut, AllSaw, HaveMet, HaveRunAll, LaneSaw, RanOut, are_on, passes_of, log_of};
 ghost use Rattle.ov_lanes.specs.Threads.{HeadFirst};
 ghost use Rattle.ov_lanes.specs.Rans.{ArePlain, report_of};
 
@@ -68,6 +68,31 @@ pub fn run_lanes<R: Threads + Wait + Sync, G: Gate + Sync>(
     ensures lanes { IfOk result (λ r. length r.logs ≡ lanes) }
     ensures plain { IfOk result (λ r. ArePlain r.logs) }
 {
+    run_script(rt, alloc, script, first, lanes, head, gate)
+}
+
+/// The same of a script whose lines and head have names in the proof.
+fn run_script<R: Threads + Wait + Sync, G: Gate + Sync>(
+    rt: &R,
+    alloc: Global,
+    script: Script,
+    first: u32,
+    lanes: u32,
+    head: u64,
+    gate: &G,
+) -> Result<Ran, Memory>
+    ghost it: { Beginning }
+    requires lines { it.lines ≡ script.lines }
+    requires head { it.head ≡ head }
+    requires first { 1 ≤ first }
+    requires few { (1 ≤ lanes) × (lanes ≤ 64) }
+    requires named { AllByRecursion (λ line. line.lane < lanes) it.lines }
+    requires fits { AllByRecursion (λ line. Fits line.deed) it.lines }
+    ensures legal { IfOk result (λ r. Legal script first (report_of r)) }
+    ensures head { IfOk result (λ r. HeadFirst script head (report_of r)) }
+    ensures lanes { IfOk result (λ r. length r.logs ≡ lanes) }
+    ensures plain { IfOk result (λ r. ArePlain r.logs) }
+{
     let Script { lines, routes } = script;
     let order = order_of(alloc, lines.as_slice(), head)?;
     let dealt = deal(alloc, lines.into_vec(), lanes)?;
@@ -83,8 +108,8 @@ pub fn run_lanes<R: Threads + Wait + Sync, G: Gate + Sync>(
         drop(ovpn.close(fresh));
         return Err(Memory);
     }
-    seat(&ovpn, fresh.into_vec(), dealt, rooms, &mut jobs);
-    run_all(rt, alloc, &mut jobs, order.as_slice(), gate);
+    let fresh = fresh.into_vec();
+    run_seated(rt, alloc, &ovpn, fresh, dealt, rooms, &mut jobs, order.as_slice(), gate);
     let all = take_in(alloc, jobs, &mut passes, &mut logs);
     let closed = ovpn.close(ListOf::of_vec(passes));
     if all {
@@ -169,6 +194,37 @@ fn seat<'a>(
     jobs.as_mut_slice().reverse();
 }
 
+/// Puts the lanes together and runs all lines. A lane is stopped by want of memory.
+fn run_seated<'a, R: Threads + Wait + Sync, G: Gate + Sync>(
+    rt: &R,
+    alloc: Global,
+    ovpn: &'a Ovpn,
+    passes: Vec<Pass>,
+    dealt: Vec<Vec<Line>>,
+    rooms: Vec<Vec<Answer>>,
+    jobs: &mut Vec<Job<'a>>,
+    order: &[u32],
+    gate: &G,
+)
+    ghost it: { Setting }
+    requires table { it.table ≡ ovpn.now }
+    requires fresh { AreFresh ovpn.now (length dealt.items) passes.items }
+    requires all { AreAllPasses ovpn.now passes.items }
+    requires dealt { AreDealt it.lines (length dealt.items) dealt.items }
+    requires rooms { HaveRoom dealt.items rooms.items }
+    requires fits { AllByRecursion (λ line. Fits line.deed) it.lines }
+    requires named { AllByRecursion (λ line. line.lane < length dealt.items) it.lines }
+    requires order { order.now ≡ map (λ line. line.lane) (take it.head it.lines) }
+    requires none { jobs.old.items ≡ [] }
+    requires room { length dealt.items ≤ vec_capacity jobs.old }
+    requires some { 1 ≤ length dealt.items }
+    requires few { length dealt.items ≤ 64 }
+    ensures { HaveRunAll it.table it.lines (length order.now) (length dealt.items) jobs.new.items }
+{
+    seat(ovpn, passes, dealt, rooms, jobs);
+    run_all(rt, alloc, jobs, order, gate);
+}
+
 /// Runs all lines: those of the head first, and then each lane's on a thread of its own. A lane is stopped by want of memory.
 fn run_all<'a, R: Threads + Wait + Sync, G: Gate + Sync>(
     rt: &R,
@@ -236,13 +292,24 @@ fn meet<'a>(jobs: &mut [Job<'a>], one: usize, other: usize)
     if one == other {
         return;
     }
-    let (low, high) = if one < other { (one, other) } else { (other, one) };
-    with_both(jobs, low, high, |one: &mut Job, other: &mut Job|
-        requires { one.old.table ≡ other.old.table }
-        ensures one { LaneSaw one.old one.new }
-        ensures other { LaneSaw other.old other.new }
-        ensures same { one.new.pass.share.sight.seen ≡ other.new.pass.share.sight.seen }
-    { one.meet(other); });
+    let (low, high) = if one < other {
+        (one, other)
+    } else {
+        (other, one)
+    };
+    with_both(
+        jobs,
+        low,
+        high,
+        |first: &mut Job, second: &mut Job|
+            requires { first.old.table ≡ second.old.table }
+            ensures first { LaneSaw first.old first.new }
+            ensures second { LaneSaw second.old second.new }
+            ensures same { first.new.pass.share.sight.seen ≡ second.new.pass.share.sight.seen }
+        {
+            first.meet(second);
+        },
+    );
 }
 
 /// Each lane meets one, so that it has seen what that has.

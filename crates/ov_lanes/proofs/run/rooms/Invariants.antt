@@ -1,4 +1,3 @@
-use Rattle.std.proofs.Common.{◌≡◌}
 use Rattle.std.specs.Prelude.{take}
 use Rattle.ov_lanes.specs.Dealt.{HaveRoom}
 use Rattle.ov_lanes.proofs.run.rooms.Given as goal

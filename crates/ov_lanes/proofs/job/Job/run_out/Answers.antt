@@ -1,4 +1,4 @@
-use Rattle.std.proofs.Common.{◌≡◌, ◌<◌, ◌-◌, length, false, sym, ◌∙◌, subst, arith}
+use Rattle.std.proofs.Common.{◌≡◌, ◌<◌, ◌-◌, length, sym, ◌∙◌, subst, arith}
 use Rattle.ov_lanes.specs.Jobs.{RanSome}
 use Rattle.ov_lanes.proofs.Working.{none_ran, one_ran, ran_stopped, next_left}
 use Rattle.ov_lanes.proofs.job.Job.run_out.Goals as goal
