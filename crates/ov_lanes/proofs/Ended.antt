@@ -102,15 +102,15 @@ over_headed script first head n count o lanes report over =
     let before = behind.head in
     let long : length (passes_of lanes) ≡ length (passes_of behind.before) = length-map lanes (λ (l : Lane). l.pass) ∙ behind.ran.count ∙ sym (length-map behind.before (λ (l : Lane). l.pass)) in
     let done : HeadFirst script n report = head_done script first report n before.low (passes_of behind.before) (passes_of lanes) before.runs long (λ i p q at is.
-        let a = lane_of behind.before i p at in
-        let b = lane_of lanes i q is in
-        let ran : RanOut a.lane b.lane = behind.ran.each i a.lane b.lane a.at b.at in
-        let number : a.lane.pass.number ≡ i = (before.work.numbers i a.lane a.at).0 in
-        let lines : a.lane.pass.lines ≡ length (lane_lines (take n script.lines) i) = (before.runs.run.each i a.lane.pass (pass_at behind.before i a.lane a.at)).1 in
-        let saw : before.low ≤ length a.lane.pass.share.sight.seen = all_at (λ (l : Lane). before.low ≤ length l.pass.share.sight.seen) behind.before i a.lane before.saw a.at in
-        let added : HasAdded (IsLater script.lines n i) a.lane.pass.share b.lane.pass.share = added_wider a.lane.pass.share b.lane.pass.share (λ place from. later_of script.lines n i a.lane.pass.lines place lines (subst (λ k. IsFrom k a.lane.pass.lines place) number from)) ran.stays.added in
-        (subst (λ (x : Passing). before.low ≤ length x.share.sight.seen) a.is saw, subst (λ (x : Passing). HasAdded (IsLater script.lines n i) x.share q.share) a.is (subst (λ (x : Passing). HasAdded (IsLater script.lines n i) a.lane.pass.share x.share) b.is added)))
-      (all_done script first head n count o lanes report over) in
+    let a = lane_of behind.before i p at in
+    let b = lane_of lanes i q is in
+    let ran : RanOut a.lane b.lane = behind.ran.each i a.lane b.lane a.at b.at in
+    let number : a.lane.pass.number ≡ i = (before.work.numbers i a.lane a.at).0 in
+    let lines : a.lane.pass.lines ≡ length (lane_lines (take n script.lines) i) = (before.runs.run.each i a.lane.pass (pass_at behind.before i a.lane a.at)).1 in
+    let saw : before.low ≤ length a.lane.pass.share.sight.seen = all_at (λ (l : Lane). before.low ≤ length l.pass.share.sight.seen) behind.before i a.lane before.saw a.at in
+    let added : HasAdded (IsLater script.lines n i) a.lane.pass.share b.lane.pass.share = added_wider a.lane.pass.share b.lane.pass.share (λ place from. later_of script.lines n i a.lane.pass.lines place lines (subst (λ k. IsFrom k a.lane.pass.lines place) number from)) ran.stays.added in
+    (subst (λ (x : Passing). before.low ≤ length x.share.sight.seen) a.is saw, subst (λ (x : Passing). HasAdded (IsLater script.lines n i) x.share q.share) a.is (subst (λ (x : Passing). HasAdded (IsLater script.lines n i) a.lane.pass.share x.share) b.is added)))
+    (all_done script first head n count o lanes report over) in
     head_capped script report head n (capped script.lines head n over.headed) done
   where
     capped : (lines : List Line) (head n : ℕ) → n ≡ length (take head lines) → min head (length lines) ≤ n

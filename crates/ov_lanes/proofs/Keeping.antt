@@ -136,11 +136,11 @@ work_kept o lines old new work count each =
 -- One of them alone is another.
 pub work_set : (o : Shared) (lines : List Line) (lanes : List Lane) (i : ℕ) (old new : Lane) → AreAtWork o lines lanes → slice_get lanes i ≡ Some old → KeepsAndStands old new → AreAtWork o lines (slice_set lanes i new)
 work_set o lines lanes i old new work at kept = work_kept o lines lanes (slice_set lanes i new) work (length-set lanes i new) (λ k a b was is. elim (set_case lanes i k new b is) [
-    | inl here ↦
-        let same : a ≡ old = same_Some a old (sym was ∙ ap (slice_get lanes) here.0 ∙ at) in
-        subst (λ x. KeepsAndStands x b) (sym same) (subst (KeepsAndStands old) (sym here.1) kept)
-    | inr others ↦
-        let same : a ≡ b = same_Some a b (sym was ∙ others.1) in
-        let ready : IsReady a = all_at IsReady lanes k a work.ready was in
-        subst (KeepsAndStands a) same (keeps_itself a ready, all_at (λ (lane : Lane). lane.stopped ≡ false → Stands lane) lanes k a work.stands was)
-  ])
+  | inl here ↦
+      let same : a ≡ old = same_Some a old (sym was ∙ ap (slice_get lanes) here.0 ∙ at) in
+      subst (λ x. KeepsAndStands x b) (sym same) (subst (KeepsAndStands old) (sym here.1) kept)
+  | inr others ↦
+      let same : a ≡ b = same_Some a b (sym was ∙ others.1) in
+      let ready : IsReady a = all_at IsReady lanes k a work.ready was in
+      subst (KeepsAndStands a) same (keeps_itself a ready, all_at (λ (lane : Lane). lane.stopped ≡ false → Stands lane) lanes k a work.stands was)
+])

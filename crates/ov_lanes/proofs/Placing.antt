@@ -66,9 +66,9 @@ dealt_line lines line count dealt was is had at more = record {
   counted = length-set dealt line.lane is ∙ had.counted;
   each = λ i own there. elim (cases_eq i line.lane) [
     | inl same ↦
-      let there' : slice_get (slice_set dealt line.lane is) line.lane ≡ Some own = subst (λ k. slice_get (slice_set dealt line.lane is) k ≡ Some own) same there in
-      let new : is ≡ own = set_same dealt line.lane is own there' in
-      ap (λ (v : Vec Line Global). v.items) (sym new) ∙ more ∙ ap (λ l. l ++ line ∷ []) (had.each line.lane was at) ∙ ap (λ k. lane_lines lines k ++ line ∷ []) (sym same) ∙ sym (lines_same lines line i (sym same))
+        let there' : slice_get (slice_set dealt line.lane is) line.lane ≡ Some own = subst (λ k. slice_get (slice_set dealt line.lane is) k ≡ Some own) same there in
+        let new : is ≡ own = set_same dealt line.lane is own there' in
+        ap (λ (v : Vec Line Global). v.items) (sym new) ∙ more ∙ ap (λ l. l ++ line ∷ []) (had.each line.lane was at) ∙ ap (λ k. lane_lines lines k ++ line ∷ []) (sym same) ∙ sym (lines_same lines line i (sym same))
     | inr other ↦ had.each i own (sym (set_other dealt line.lane i is other) ∙ there) ∙ sym (lines_other lines line i (λ same. other (sym same)))
   ];
 }
@@ -263,7 +263,7 @@ lanes_seated o lines passes dealt fresh all are ready =
         on = all_from (λ (lane : Lane). lane.stopped ≡ false) lanes (λ i lane at. ap (λ (l : Lane). l.stopped) (seat i lane at).is);
         low = 0;
         runs = head_begins lines 0 (passes_of lanes) (none_run lines (passes_of lanes) (λ i p at. let its = new i p (ap (λ ps. slice_get ps i) same ∙ at) in (its.number_is, its.lines)))
-          (subst (AllByRecursion (λ (p : Passing). p.share.sight.own ≡ [])) same (all_from (λ (p : Passing). p.share.sight.own ≡ []) passes (λ i p at. (new i p at).nothing.own)));
+            (subst (AllByRecursion (λ (p : Passing). p.share.sight.own ≡ [])) same (all_from (λ (p : Passing). p.share.sight.own ≡ []) passes (λ i p at. (new i p at).nothing.own)));
         saw = λ lane at. omega arith;
       };
       counted = lanes_counted o passes dealt fresh.counted;

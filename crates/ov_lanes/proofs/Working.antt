@@ -120,7 +120,7 @@ pub record IsSat (table : Shared) (pass : Passing) (number lines : ℕ) (share :
 sat_same : (P : ℕ → ℕ → Sitting → Type 0) (table : Shared) (pass : Passing) (number lines : ℕ) (share : Sharing) (sat desk : Sitting) (back : Sharing) → IsSat table pass number lines share sat desk back → P number lines sat → P pass.number pass.lines (at_rest table.words table.routes pass.share)
 sat_same P table pass number lines share sat desk back its p =
     subst (λ s. P pass.number pass.lines (at_rest table.words table.routes s)) its.share_is
-      (subst (λ d. P pass.number pass.lines d) its.sat_is (subst (λ l. P pass.number l sat) its.lines_is (subst (λ n. P n lines sat) its.number_is p)))
+    (subst (λ d. P pass.number pass.lines d) its.sat_is (subst (λ l. P pass.number l sat) its.lines_is (subst (λ n. P n lines sat) its.number_is p)))
 
 sat_rests : (table : Shared) (pass : Passing) (number lines : ℕ) (share : Sharing) (sat desk : Sitting) (back : Sharing) → IsSat table pass number lines share sat desk back → RestsAgain pass.number (λ p. p ≡ record { lane = pass.number; line = pass.lines }) (at_rest table.words table.routes pass.share) desk
 sat_rests table pass number lines share sat desk back its = sat_same (λ n l d. RestsAgain n (λ p. p ≡ record { lane = n; line = l }) d desk) table pass number lines share sat desk back its its.rests
@@ -133,16 +133,16 @@ sat_of table pass number lines share sat desk back its =
 same_lane : (a b : Lane) → a.table ≡ b.table → a.pass ≡ b.pass → a.lines ≡ b.lines → a.answers ≡ b.answers → a.stopped ≡ b.stopped → a ≡ b
 same_lane a b table pass lines answers stopped =
     ap (λ x. record { table = x; pass = a.pass; lines = a.lines; answers = a.answers; stopped = a.stopped }) table
-      ∙ ap (λ x. record { table = b.table; pass = x; lines = a.lines; answers = a.answers; stopped = a.stopped }) pass
-      ∙ ap (λ x. record { table = b.table; pass = b.pass; lines = x; answers = a.answers; stopped = a.stopped }) lines
-      ∙ ap (λ x. record { table = b.table; pass = b.pass; lines = b.lines; answers = x; stopped = a.stopped }) answers
-      ∙ ap (λ x. record { table = b.table; pass = b.pass; lines = b.lines; answers = b.answers; stopped = x }) stopped
+    ∙ ap (λ x. record { table = b.table; pass = x; lines = a.lines; answers = a.answers; stopped = a.stopped }) pass
+    ∙ ap (λ x. record { table = b.table; pass = b.pass; lines = x; answers = a.answers; stopped = a.stopped }) lines
+    ∙ ap (λ x. record { table = b.table; pass = b.pass; lines = b.lines; answers = x; stopped = a.stopped }) answers
+    ∙ ap (λ x. record { table = b.table; pass = b.pass; lines = b.lines; answers = b.answers; stopped = x }) stopped
 
 same_pass : (number lines lines' : ℕ) (share share' : Sharing) (pass new : Passing) → number ≡ pass.number → lines ≡ lines' → share ≡ share' → new ≡ record { number = number; lines = lines; share = share } → new ≡ record { number = pass.number; lines = lines'; share = share' }
 same_pass number lines lines' share share' pass new number_is lines_is share_is is =
     is ∙ ap (λ n. record { number = n; lines = lines; share = share }) number_is
-      ∙ ap (λ l. record { number = pass.number; lines = l; share = share }) lines_is
-      ∙ ap (λ s. record { number = pass.number; lines = lines'; share = s }) share_is
+    ∙ ap (λ l. record { number = pass.number; lines = l; share = share }) lines_is
+    ∙ ap (λ s. record { number = pass.number; lines = lines'; share = s }) share_is
 
 -- The lane before, whose pass was there.
 there : (table : Shared) (lines : List Line) (answers : List Answer) (stopped : Bool) (lane : Lane) (was : Option Passing) (pass : Passing) → was ≡ Some pass → lane_in table lines answers stopped was ≡ lane → lane_in table lines answers stopped (Some pass) ≡ lane

@@ -109,7 +109,17 @@ fn run_script<R: Threads + Wait + Sync, G: Gate + Sync>(
         return Err(Memory);
     }
     let fresh = fresh.into_vec();
-    run_seated(rt, alloc, &ovpn, fresh, dealt, rooms, &mut jobs, order.as_slice(), gate);
+    run_seated(
+        rt,
+        alloc,
+        &ovpn,
+        fresh,
+        dealt,
+        rooms,
+        &mut jobs,
+        order.as_slice(),
+        gate,
+    );
     let all = take_in(alloc, jobs, &mut passes, &mut logs);
     let closed = ovpn.close(ListOf::of_vec(passes));
     if all {
@@ -341,7 +351,9 @@ fn run_side_by_side<'a, R: Threads + Wait + Sync, G: Gate + Sync>(
         64,
         &|_lane: usize, job: &mut Job|
             ensures { RanOut job.old job.new }
-        { job.run_out(rt, alloc, gate); },
+        {
+            job.run_out(rt, alloc, gate);
+        },
     );
 }
 

@@ -32,10 +32,11 @@ use Rattle.ov_run.specs.declared.ended.Ended.{Ended}
 abbrev pub lanes_read : ℕ
 lanes_read = 64
 
--- The number of lanes on which a made script runs, each on a thread of its own, and how many of its lines run before.
+-- The number of lanes on which a made script runs, each on a thread of its own.
 abbrev pub load_lanes : ℕ
 load_lanes = 8
 
+-- How many lines of a made script run before its lanes run side by side: those that make the peers and their keys.
 abbrev pub load_head : ℕ
 load_head = 256
 

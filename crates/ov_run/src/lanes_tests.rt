@@ -2,15 +2,16 @@
 //! its ways must come out. The expected lines are written by hand.
 
 use crate::ended::Cause;
-use crate::packet_tests::{KEY_ANSWER, KEY_MADE, KEY5, PEER_ANSWER, PEER_MADE, PEER5, RECEIVE5, SEND5};
-use crate::packet_tests::{text, written};
-use crate::tests::{ran, run, ran_by, writes};
+use crate::packet_tests::{
+    KEY_ANSWER, KEY_MADE, KEY5, PEER_ANSWER, PEER_MADE, PEER5, RECEIVE5, SEND5, text, written,
+};
+use crate::tests::{ran, ran_by, run, writes};
 use ov_course::Gate;
 use ov_model::{Answer, DropCause, Place, Report};
 use std::alloc::Global;
-use std::sync::atomic::{AtomicBool, Ordering};
 use std::process::Abort;
 use std::sync::Wait;
+use std::sync::atomic::{AtomicBool, Ordering};
 use std::thread::Threads;
 
 /// How often such a row runs.
@@ -64,7 +65,13 @@ fn of_two_lanes_that_receive_one_datagram_one_delivers_it(rt: HostRuntime) {
     let words = ["lanes", "--lanes", "2", "--head", "2"];
     for _time in 0..TIMES {
         let (status, report) = run(&rt, alloc, &words, script.as_slice(), &[], &[]);
-        ends_one_way(&rt, status, report.as_slice(), lane_0.as_slice(), lane_1.as_slice());
+        ends_one_way(
+            &rt,
+            status,
+            report.as_slice(),
+            lane_0.as_slice(),
+            lane_1.as_slice(),
+        );
     }
 }
 
@@ -86,7 +93,15 @@ fn sealed_and_spent(report: &Report) -> (u32, u32) {
 
 /// Of two lanes that send under a key that has one packet id left, one seals, and for the other the key is spent.
 fn one_seals(rt: &(impl Abort + Threads + Wait + Sync), alloc: Global, script: &[u8], end: &[u8]) {
-    let words = ["lanes", "--lanes", "2", "--head", "2", "--first-id", "4294967295"];
+    let words = [
+        "lanes",
+        "--lanes",
+        "2",
+        "--head",
+        "2",
+        "--first-id",
+        "4294967295",
+    ];
     let (ended, report) = ran(rt, alloc, &words, script, &[], &[]);
     assert_eq!(rt; ended.cause, Cause::Fine);
     assert!(rt; report.as_slice().ends_with(end));
@@ -171,7 +186,14 @@ impl Gate for Meeting {
 }
 
 /// With these words lines of this number of lanes 0 and 1 run side by side, and what is written ends so.
-fn meet(rt: &(impl Abort + Threads + Wait + Sync), alloc: Global, words: &[&str], script: &[u8], line: u64, end: &[u8]) {
+fn meet(
+    rt: &(impl Abort + Threads + Wait + Sync),
+    alloc: Global,
+    words: &[&str],
+    script: &[u8],
+    line: u64,
+    end: &[u8],
+) {
     let gate = Meeting::at(line);
     let (ended, report) = ran_by(rt, alloc, words, script, &gate);
     assert_eq!(rt; ended.cause, Cause::Fine);
@@ -182,7 +204,8 @@ fn meet(rt: &(impl Abort + Threads + Wait + Sync), alloc: Global, words: &[&str]
 #[test]
 fn lanes_run_side_by_side(rt: HostRuntime) {
     let alloc = rt.alloc();
-    let script = b"{\"at\":0,\"do\":\"peer-dump\",\"lane\":0}\n{\"at\":0,\"do\":\"peer-dump\",\"lane\":1}\n";
+    let script =
+        b"{\"at\":0,\"do\":\"peer-dump\",\"lane\":0}\n{\"at\":0,\"do\":\"peer-dump\",\"lane\":1}\n";
     let end = text(
         &rt,
         alloc,
@@ -193,7 +216,14 @@ fn lanes_run_side_by_side(rt: HostRuntime) {
         ],
     );
     for _time in 0..TIMES {
-        meet(&rt, alloc, &["lanes", "--lanes", "2"], script, 0, end.as_slice());
+        meet(
+            &rt,
+            alloc,
+            &["lanes", "--lanes", "2"],
+            script,
+            0,
+            end.as_slice(),
+        );
     }
 }
 
@@ -208,7 +238,14 @@ fn made_lanes_run_side_by_side(rt: HostRuntime) {
         ],
     );
     for _time in 0..TIMES {
-        meet(&rt, alloc, &["load", "--count", "2"], b"", 32, end.as_slice());
+        meet(
+            &rt,
+            alloc,
+            &["load", "--count", "2"],
+            b"",
+            32,
+            end.as_slice(),
+        );
     }
 }
 
@@ -221,13 +258,27 @@ fn made_lanes_have_the_summary_of_their_script(rt: HostRuntime) {
             r#"{"summary":{"accepted":1,"answers":260,"bad-tag":1,"delivered":1,"journal":262,"keys":128,"keys-differ":true,"notes":0,"peers":128,"refused":1,"released":0,"sealed":1}}"#,
         ],
     );
-    writes(&rt, rt.alloc(), &["load", "--count", "4"], b"x\n", 0, four.as_slice());
+    writes(
+        &rt,
+        rt.alloc(),
+        &["load", "--count", "4"],
+        b"x\n",
+        0,
+        four.as_slice(),
+    );
 }
 
 #[test]
 fn a_line_on_a_lane_that_is_not_there_is_a_bad_line(rt: HostRuntime) {
     let script = text(&rt, rt.alloc(), &[PEER5, SEND5_ON_1]);
-    let (ended, report) = ran(&rt, rt.alloc(), &["lanes", "--lanes", "1"], script.as_slice(), &[], &[]);
+    let (ended, report) = ran(
+        &rt,
+        rt.alloc(),
+        &["lanes", "--lanes", "1"],
+        script.as_slice(),
+        &[],
+        &[],
+    );
     assert_eq!(rt; ended.cause, Cause::BadLine(2));
     assert!(rt; report.as_slice().is_empty());
 }

@@ -9,7 +9,14 @@ use std::sync::Wait;
 use std::thread::Threads;
 
 /// A run with these words ends with this status and writes this text.
-fn ends(rt: &(impl Abort + Threads + Wait + Sync), alloc: Global, words: &[&str], writes: &[u64], status: u8, wanted: &str) {
+fn ends(
+    rt: &(impl Abort + Threads + Wait + Sync),
+    alloc: Global,
+    words: &[&str],
+    writes: &[u64],
+    status: u8,
+    wanted: &str,
+) {
     let (ended, written) = run(rt, alloc, words, b"x\n", &[0], writes);
     are(rt, ended, written.as_slice(), status, wanted.as_bytes());
 }

@@ -76,21 +76,37 @@ fn is_end(rt: &impl Abort, status: u8, text: &[u8], end: &[u8]) {
 }
 
 /// A run of each line of a script to its end has the status 0, and its text ends with these lines.
-pub fn ends_in(rt: &(impl Abort + Threads + Wait + Sync), alloc: Global, script: &[u8], lines: &[&str]) {
+pub fn ends_in(
+    rt: &(impl Abort + Threads + Wait + Sync),
+    alloc: Global,
+    script: &[u8],
+    lines: &[&str],
+) {
     let end = text(rt, alloc, lines);
     let (status, written) = run(rt, alloc, &["trace"], script, &[], &[]);
     is_end(rt, status, written.as_slice(), end.as_slice());
 }
 
 /// Runs a script of these lines with these words; the whole text that is written must be these lines of a report.
-pub fn written(rt: &(impl Abort + Threads + Wait + Sync), alloc: Global, words: &[&str], script: &[&str], report: &[&str]) {
+pub fn written(
+    rt: &(impl Abort + Threads + Wait + Sync),
+    alloc: Global,
+    words: &[&str],
+    script: &[&str],
+    report: &[&str],
+) {
     let script = text(rt, alloc, script);
     let report = text(rt, alloc, report);
     writes(rt, alloc, words, script.as_slice(), 0, report.as_slice());
 }
 
 /// Runs each line of a script to its end; the whole text that is written must be these lines of a report.
-fn gives(rt: &(impl Abort + Threads + Wait + Sync), alloc: Global, script: &[&str], report: &[&str]) {
+fn gives(
+    rt: &(impl Abort + Threads + Wait + Sync),
+    alloc: Global,
+    script: &[&str],
+    report: &[&str],
+) {
     written(rt, alloc, &["trace"], script, report);
 }
 

@@ -58,7 +58,13 @@ const DELETE5_ON_1: &str = r#"{"at":0,"do":"peer-del","lane":1,"peer":{"id":5}}"
 const DELETE5_ON_2: &str = r#"{"at":0,"do":"peer-del","lane":2,"peer":{"id":5}}"#;
 
 /// Runs a script of these lines by this schedule; the whole text that is written must be these lines of a report.
-fn steps(rt: &(impl Abort + Threads + Wait + Sync), alloc: Global, schedule: &str, script: &[&str], report: &[&str]) {
+fn steps(
+    rt: &(impl Abort + Threads + Wait + Sync),
+    alloc: Global,
+    schedule: &str,
+    script: &[&str],
+    report: &[&str],
+) {
     let words = ["steps", "--schedule", schedule];
     written(rt, alloc, &words, script, report);
 }

@@ -69,7 +69,14 @@ pub fn ran(
     let bytes = octets(rt, alloc, text);
     let mut source = MemorySource::new(bytes, 16, calls(rt, alloc, reads));
     let mut sink = MemorySink::new(alloc, 16, calls(rt, alloc, writes));
-    let ended = threads::run(rt, alloc, words.as_slice(), &mut source, &mut sink, &OpenGate);
+    let ended = threads::run(
+        rt,
+        alloc,
+        words.as_slice(),
+        &mut source,
+        &mut sink,
+        &OpenGate,
+    );
     (ended, octets(rt, alloc, sink.written()))
 }
 
@@ -102,7 +109,12 @@ pub fn run(
 }
 
 /// A run on `text` ends by this cause.
-pub fn ends_by(rt: &(impl Abort + Threads + Wait + Sync), alloc: Global, text: &[u8], wanted: Cause) {
+pub fn ends_by(
+    rt: &(impl Abort + Threads + Wait + Sync),
+    alloc: Global,
+    text: &[u8],
+    wanted: Cause,
+) {
     let (ended, _) = ran(rt, alloc, &["trace"], text, &[], &[]);
     let cause = ended.cause;
     assert_eq!(rt; cause, wanted);
@@ -229,7 +241,12 @@ fn is_none_or_whole(rt: &impl Abort, status: u8, text: &[u8], whole: &[u8]) {
 }
 
 /// A read that fails at this call is told, and nothing is written; or the run never came to it.
-fn tells_a_read_fault(rt: &(impl Abort + Threads + Wait + Sync), alloc: Global, number: u64, whole: &[u8]) {
+fn tells_a_read_fault(
+    rt: &(impl Abort + Threads + Wait + Sync),
+    alloc: Global,
+    number: u64,
+    whole: &[u8],
+) {
     let (status, written) = run(rt, alloc, &["trace"], PEER5.as_bytes(), &[number], &[]);
     is_none_or_whole(rt, status, written.as_slice(), whole);
 }
@@ -242,13 +259,23 @@ fn is_part(rt: &impl Abort, status: u8, text: &[u8], whole: &[u8]) {
 }
 
 /// A write that fails at this call is told, and a part from the front is written; or the run never came to it.
-fn tells_a_write_fault(rt: &(impl Abort + Threads + Wait + Sync), alloc: Global, number: u64, whole: &[u8]) {
+fn tells_a_write_fault(
+    rt: &(impl Abort + Threads + Wait + Sync),
+    alloc: Global,
+    number: u64,
+    whole: &[u8],
+) {
     let (status, written) = run(rt, alloc, &["trace"], PEER5.as_bytes(), &[], &[number]);
     is_part(rt, status, written.as_slice(), whole);
 }
 
 /// A fault at any of the first calls is told; without one the status is this one, which is 0, and this is written.
-fn tells_each_fault(rt: &(impl Abort + Threads + Wait + Sync), alloc: Global, status: u8, whole: &[u8]) {
+fn tells_each_fault(
+    rt: &(impl Abort + Threads + Wait + Sync),
+    alloc: Global,
+    status: u8,
+    whole: &[u8],
+) {
     assert_eq!(rt; status, 0);
     for number in 0..24_u64 {
         tells_a_read_fault(rt, alloc, number, whole);
@@ -257,7 +284,12 @@ fn tells_each_fault(rt: &(impl Abort + Threads + Wait + Sync), alloc: Global, st
 }
 
 /// The status of a run where these calls fail.
-fn status_of(rt: &(impl Abort + Threads + Wait + Sync), alloc: Global, reads: &[u64], writes: &[u64]) -> u8 {
+fn status_of(
+    rt: &(impl Abort + Threads + Wait + Sync),
+    alloc: Global,
+    reads: &[u64],
+    writes: &[u64],
+) -> u8 {
     let (status, _) = run(rt, alloc, &["trace"], PEER5.as_bytes(), reads, writes);
     status
 }

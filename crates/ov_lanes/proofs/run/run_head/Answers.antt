@@ -32,7 +32,7 @@ run_next-requires g c =
     let own : Lane = c.index_mut.result.now in
     let left = with_items_is c.loop-lane.jobs c.meet.new.jobs (c.meet.ensures.saw.count ∙ c.as_mut_slice.ensures.len) in
     let its = turn g.it.table g.it.lines g.it.head (length c.args.jobs.now.items) c.args.order.now c.loop-lane.lane-index c.loop-lane.last c.loop-lane.jobs.items c.as_mut_slice.result.now c.meet.new.jobs _ own
-      c.requires.1.1.1.0 c.requires.1.1.1.1.0 c.loop-lane-test.true c.loop-lane.invariant.head c.loop-lane.invariant.within c.loop-lane.invariant.count c.as_mut_slice.ensures.value left c.meet.ensures.saw c.meet.ensures.met c.index_mut.ensures.value in
+    c.requires.1.1.1.0 c.requires.1.1.1.1.0 c.loop-lane-test.true c.loop-lane.invariant.head c.loop-lane.invariant.within c.loop-lane.invariant.count c.as_mut_slice.ensures.value left c.meet.ensures.saw c.meet.ensures.met c.index_mut.ensures.value in
     record { left = head_left g.it.table g.it.lines c.loop-lane.lane-index lane _ own its.head its.line its.at }
 
 pub index-requires : goal.index-requires
@@ -46,7 +46,7 @@ returns-then-stopped-clause-work g c =
     let own : Lane = c.index_mut.result.now in
     let left = with_items_is c.loop-lane.jobs c.meet.new.jobs (c.meet.ensures.saw.count ∙ c.as_mut_slice.ensures.len) in
     let its = turn g.it.table g.it.lines g.it.head (length c.args.jobs.now.items) c.args.order.now c.loop-lane.lane-index c.loop-lane.last c.loop-lane.jobs.items c.as_mut_slice.result.now c.meet.new.jobs _ own
-      c.requires.1.1.1.0 c.requires.1.1.1.1.0 c.loop-lane-test.true c.loop-lane.invariant.head c.loop-lane.invariant.within c.loop-lane.invariant.count c.as_mut_slice.ensures.value left c.meet.ensures.saw c.meet.ensures.met c.index_mut.ensures.value in
+    c.requires.1.1.1.0 c.requires.1.1.1.1.0 c.loop-lane-test.true c.loop-lane.invariant.head c.loop-lane.invariant.within c.loop-lane.invariant.count c.as_mut_slice.ensures.value left c.meet.ensures.saw c.meet.ensures.met c.index_mut.ensures.value in
     next_work g.it.table g.it.lines _ lane own c.run_next.new.self its.head.work its.head.on its.at c.run_next.ensures
 
 pub returns-then-stopped-clause-stopped : goal.returns-then-stopped-clause-stopped
@@ -55,7 +55,7 @@ returns-then-stopped-clause-stopped g c =
     let own : Lane = c.index_mut.result.now in
     let left = with_items_is c.loop-lane.jobs c.meet.new.jobs (c.meet.ensures.saw.count ∙ c.as_mut_slice.ensures.len) in
     let its = turn g.it.table g.it.lines g.it.head (length c.args.jobs.now.items) c.args.order.now c.loop-lane.lane-index c.loop-lane.last c.loop-lane.jobs.items c.as_mut_slice.result.now c.meet.new.jobs _ own
-      c.requires.1.1.1.0 c.requires.1.1.1.1.0 c.loop-lane-test.true c.loop-lane.invariant.head c.loop-lane.invariant.within c.loop-lane.invariant.count c.as_mut_slice.ensures.value left c.meet.ensures.saw c.meet.ensures.met c.index_mut.ensures.value in
+    c.requires.1.1.1.0 c.requires.1.1.1.1.0 c.loop-lane-test.true c.loop-lane.invariant.head c.loop-lane.invariant.within c.loop-lane.invariant.count c.as_mut_slice.ensures.value left c.meet.ensures.saw c.meet.ensures.met c.index_mut.ensures.value in
     let new : Lane = c.run_next.new.self in
     let is : c.index.result.now ≡ new = c.index.ensures ∙ set_own _ lane new c.index.result.now its.here in
     λ none on. next_off _ lane own new its.at (sym (ap (λ (l : Lane). l.stopped) is) ∙ sym c.stopped.ensures ∙ c.if-stopped.true) on
@@ -66,7 +66,7 @@ loop-lane-preserved g c =
     let own : Lane = c.index_mut.result.now in
     let left = with_items_is c.loop-lane.jobs c.meet.new.jobs (c.meet.ensures.saw.count ∙ c.as_mut_slice.ensures.len) in
     let its = turn g.it.table g.it.lines g.it.head (length c.args.jobs.now.items) c.args.order.now c.loop-lane.lane-index c.loop-lane.last c.loop-lane.jobs.items c.as_mut_slice.result.now c.meet.new.jobs _ own
-      c.requires.1.1.1.0 c.requires.1.1.1.1.0 c.loop-lane-test.true c.loop-lane.invariant.head c.loop-lane.invariant.within c.loop-lane.invariant.count c.as_mut_slice.ensures.value left c.meet.ensures.saw c.meet.ensures.met c.index_mut.ensures.value in
+    c.requires.1.1.1.0 c.requires.1.1.1.1.0 c.loop-lane-test.true c.loop-lane.invariant.head c.loop-lane.invariant.within c.loop-lane.invariant.count c.as_mut_slice.ensures.value left c.meet.ensures.saw c.meet.ensures.met c.index_mut.ensures.value in
     let new : Lane = c.run_next.new.self in
     let is : c.index.result.now ≡ new = c.index.ensures ∙ set_own _ lane new c.index.result.now its.here in
     record {

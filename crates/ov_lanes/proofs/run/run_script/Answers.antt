@@ -18,19 +18,52 @@ run_seated-requires g c κs within =
     let its = c.requires.1.1.1.1 in
     let dealt : AreDealt g.it.lines c.args.lanes c.in_ok-dealt.dealt.items = subst (λ (ls : List Line). AreDealt ls c.args.lanes c.in_ok-dealt.dealt.items) (c.into_vec.ensures ∙ sym its.0) c.in_ok-dealt.ensures in
     let count : length c.in_ok-dealt.dealt.items ≡ c.args.lanes = dealt.counted in
-    let order : c.as_slice-3.result.now ≡ map (λ line. line.lane) (take g.it.head g.it.lines) = c.as_slice-3.ensures.value ∙ c.in_ok-order.ensures ∙ ap (λ (ls : List Line). map (λ line. line.lane) (take c.args.head ls)) (c.as_slice.ensures ∙ sym its.0) ∙ ap (λ n. map (λ (line : Line). line.lane) (take n g.it.lines)) (sym its.1.0) in
-    (within.0, (within.1, (c.requires.1.1.0, (c.requires.1.1.1.0, (refl,
-      (subst (λ n. AreFresh c.in_ok-ovpn.ovpn n c.into_vec-fresh.result.items) (sym count) (subst (AreFresh c.in_ok-ovpn.ovpn c.args.lanes) (sym c.into_vec-fresh.ensures) c.in_ok-ovpn.ensures.passes),
-      (subst (AreAllPasses c.in_ok-ovpn.ovpn) (sym c.into_vec-fresh.ensures) c.in_ok-ovpn.ensures.all,
-      (subst (λ n. AreDealt g.it.lines n c.in_ok-dealt.dealt.items) (sym count) dealt,
-      (subst (λ ds. HaveRoom ds c.in_ok-rooms.rooms.items) c.as_slice-2.ensures.value c.in_ok-rooms.ensures,
-      (its.1.1.1.1.1,
-      (subst (λ n. AllByRecursion (λ (line : Line). line.lane < n) g.it.lines) (sym count) its.1.1.1.1.0,
-      (order,
-      (c.reserve-3.ensures.items ∙ c.new-jobs.ensures.items,
-      ((let enough : c.args.lanes ≤ vec_capacity c.reserve-3.new.self = search rules in omega (arith, count)),
-      (subst (λ n. 1 ≤ n) (sym count) its.1.1.1.0.0,
-      subst (λ n. n ≤ 64) (sym count) its.1.1.1.0.1)))))))))))))))
+    let order : c.as_slice-3.result.now ≡ map (λ line. line.lane) (take g.it.head g.it.lines) = c.as_slice-3.ensures.value ∙ c.in_ok-order.ensures ∙ ap (λ (ls : List Line). map (λ line. line.lane) (take c.args.head ls)) (c.as_slice.ensures ∙ sym its.0) ∙ ap (λ n. map (λ (line : Line). line.lane) (take n g.it.lines)) (sym its.1.0) in (
+      within.0,
+      (
+        within.1,
+        (
+          c.requires.1.1.0,
+          (
+            c.requires.1.1.1.0,
+            (
+              refl,
+              (
+                subst (λ n. AreFresh c.in_ok-ovpn.ovpn n c.into_vec-fresh.result.items) (sym count) (subst (AreFresh c.in_ok-ovpn.ovpn c.args.lanes) (sym c.into_vec-fresh.ensures) c.in_ok-ovpn.ensures.passes),
+                (
+                  subst (AreAllPasses c.in_ok-ovpn.ovpn) (sym c.into_vec-fresh.ensures) c.in_ok-ovpn.ensures.all,
+                  (
+                    subst (λ n. AreDealt g.it.lines n c.in_ok-dealt.dealt.items) (sym count) dealt,
+                    (
+                      subst (λ ds. HaveRoom ds c.in_ok-rooms.rooms.items) c.as_slice-2.ensures.value c.in_ok-rooms.ensures,
+                      (
+                        its.1.1.1.1.1,
+                        (
+                          subst (λ n. AllByRecursion (λ (line : Line). line.lane < n) g.it.lines) (sym count) its.1.1.1.1.0,
+                          (
+                            order,
+                            (
+                              c.reserve-3.ensures.items ∙ c.new-jobs.ensures.items,
+                              (
+                                (let enough : c.args.lanes ≤ vec_capacity c.reserve-3.new.self = search rules in omega (arith, count)),
+                                (
+                                  subst (λ n. 1 ≤ n) (sym count) its.1.1.1.0.0,
+                                  subst (λ n. n ≤ 64) (sym count) its.1.1.1.0.1,
+                                ),
+                              ),
+                            ),
+                          ),
+                        ),
+                      ),
+                    ),
+                  ),
+                ),
+              ),
+            ),
+          ),
+        ),
+      ),
+    )
 
 pub returns-then-all-clause-legal : goal.returns-then-all-clause-legal
 returns-then-all-clause-legal g c =

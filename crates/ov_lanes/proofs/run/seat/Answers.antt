@@ -36,7 +36,7 @@ push_reserved-requires g c =
 pub loop-lane-preserved : goal.loop-lane-preserved
 loop-lane-preserved g c = record {
   seats = one_seated c.args.ovpn.now c.loop-lane._lane c.args.passes.items c.loop-lane.passes.items c.pop.new.self.items c.args.dealt.items c.loop-lane.dealt.items c.pop-in-loop-lane.new.self.items c.args.rooms.items c.loop-lane.rooms.items c.pop-in-loop-lane-2.new.self.items c.loop-lane.jobs.items c.push_reserved.new.self.items c.new.result c.in-Some-Some-Some.pass c.in-Some-Some-Some.lines c.in-Some-Some-Some.answers
-    c.loop-lane.invariant.seats c.in-Some-Some-Some.ensures.items c.in-Some-Some-Some.ensures'.items c.in-Some-Some-Some.ensures''.items c.new.ensures.value c.new.ensures.ready c.push_reserved.ensures.items;
+      c.loop-lane.invariant.seats c.in-Some-Some-Some.ensures.items c.in-Some-Some-Some.ensures'.items c.in-Some-Some-Some.ensures''.items c.new.ensures.value c.new.ensures.ready c.push_reserved.ensures.items;
   room = c.push_reserved.ensures.capacity ∙ c.loop-lane.invariant.room;
   most = omega (arith, c.loop-lane-test.true, c.as_slice-count.ensures.len, c.args.dealt.ok.0);
 }
@@ -45,4 +45,4 @@ pub returns : goal.returns
 returns g c =
     let all : c.loop-lane._lane ≡ length c.args.dealt.items = omega (arith, c.loop-lane-test.false, c.loop-lane.invariant.most, c.as_slice-count.ensures.len, c.args.dealt.ok.0) in
     all_seated c.args.ovpn.now g.lines c.loop-lane._lane c.loop-lane.jobs.len c.args.passes.items c.loop-lane.passes.items c.args.dealt.items c.loop-lane.dealt.items c.args.rooms.items c.loop-lane.rooms.items c.loop-lane.jobs.items c.as_mut_slice.result.now c.reverse.new.self
-      c.requires.0 c.requires.1.0 c.requires.1.1.0 c.loop-lane.invariant.seats all c.as_mut_slice.ensures.value c.reverse.ensures.after (c.reverse.ensures.len ∙ c.as_mut_slice.ensures.len)
+    c.requires.0 c.requires.1.0 c.requires.1.1.0 c.loop-lane.invariant.seats all c.as_mut_slice.ensures.value c.reverse.ensures.after (c.reverse.ensures.len ∙ c.as_mut_slice.ensures.len)

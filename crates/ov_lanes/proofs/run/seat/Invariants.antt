@@ -7,4 +7,5 @@ abbrev pub invariant-loop-lane : goal.invariant-loop-lane
 invariant-loop-lane g l = record {
   seats : Seats l.ovpn l._lane l.fn.passes.items l.passes.items l.fn.dealt.items l.dealt.items l.fn.rooms.items l.rooms.items l.jobs.items;
   room : vec_capacity l.jobs ≡ vec_capacity l.fn.jobs;
-  most : l._lane ≤ length l.fn.dealt.items }
+  most : l._lane ≤ length l.fn.dealt.items;
+}

@@ -10,4 +10,5 @@ invariant-loop-job l = record {
   logs : l.logs.items ≡ map log_of l.yielded;
   passes_room : vec_capacity l.passes ≡ vec_capacity l.fn.passes;
   logs_room : vec_capacity l.logs ≡ vec_capacity l.fn.logs;
-  on : l.all ≡ true → are_on l.yielded }
+  on : l.all ≡ true → are_on l.yielded;
+}

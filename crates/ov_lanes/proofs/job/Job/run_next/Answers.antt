@@ -25,14 +25,14 @@ returns g c =
     let next : length c.as_slice-next.result.now ≡ length c.self.inside.answers.items = ap length c.as_slice-next.ensures.value in
     let left : length c.self.inside.answers.items < length c.self.inside.lines.items = subst (λ (l : Lane). length l.answers < length l.lines) (sym c.self.view_is) c.requires.left in
     let at : slice_get c.self.inside.lines.items (length c.self.inside.answers.items) ≡ Some c.index.result.now =
-      rw (← next) (slice_get-get_or c.self.inside.lines.items (length c.as_slice-next.result.now) c.index.result.now (omega (arith, next, left)) ∙ ap (λ x. Some x) (sym c.index.ensures)) in
+    rw (← next) (slice_get-get_or c.self.inside.lines.items (length c.as_slice-next.result.now) c.index.result.now (omega (arith, next, left)) ∙ ap (λ x. Some x) (sym c.index.ensures)) in
     elim c.match-ran.branch [
       | in-Ok w ↦
           let inside = w.self-inside-is in
           parts_answered table c.self.inside.lines.items c.self.inside.answers.items c.self.inside.stopped _ c.args.self.now _ c.self.inside.pass pass c.into_parts-lane.result.0 c.into_parts-lane.result.1 c.match-ran.lines c.into_parts-lane.result.2 c.new-desk.result c.run_line-ran.new.desk c.into_parts-share.result.0 c.index.result.now w.in-Ok.answer
-            took c.self.view_is c.self.invariant sat w.lines-is c.of_parts.ensures (ap (λ (i : Inside). i.ovpn.now) inside) (ap (λ (i : Inside). i.lines.items) inside) (ap (λ (i : Inside). i.answers.items) inside ∙ w.push_reserved.ensures.items) (ap (λ (i : Inside). i.stopped) inside) c.requires.left at w.in-Ok.ensures.ok
+          took c.self.view_is c.self.invariant sat w.lines-is c.of_parts.ensures (ap (λ (i : Inside). i.ovpn.now) inside) (ap (λ (i : Inside). i.lines.items) inside) (ap (λ (i : Inside). i.answers.items) inside ∙ w.push_reserved.ensures.items) (ap (λ (i : Inside). i.stopped) inside) c.requires.left at w.in-Ok.ensures.ok
       | in-Err w ↦
           let inside = w.self-inside-is in
           parts_stopped table c.self.inside.lines.items c.self.inside.answers.items c.self.inside.stopped _ c.args.self.now _ c.self.inside.pass pass c.into_parts-lane.result.0 c.into_parts-lane.result.1 c.match-ran.lines c.into_parts-lane.result.2 c.new-desk.result c.run_line-ran.new.desk c.into_parts-share.result.0
-            took c.self.view_is c.self.invariant sat w.lines-is c.of_parts.ensures (ap (λ (i : Inside). i.ovpn.now) inside) (ap (λ (i : Inside). i.lines.items) inside) (ap (λ (i : Inside). i.answers.items) inside) (ap (λ (i : Inside). i.stopped) inside)
+          took c.self.view_is c.self.invariant sat w.lines-is c.of_parts.ensures (ap (λ (i : Inside). i.ovpn.now) inside) (ap (λ (i : Inside). i.lines.items) inside) (ap (λ (i : Inside). i.answers.items) inside) (ap (λ (i : Inside). i.stopped) inside)
     ]
