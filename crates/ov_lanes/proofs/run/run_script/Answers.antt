@@ -11,6 +11,7 @@ use Rattle.ov_lanes.specs.Dealt.{AreDealt, HaveRoom}
 use Rattle.ov_lanes.specs.Jobs.{Lane, HaveRunAll, log_of, passes_of}
 use Rattle.ov_lanes.specs.Rans.{ArePlain, report_of}
 use Rattle.ov_lanes.proofs.Ended.{IsOver, over_legal, over_headed, logs_plain}
+use Rattle.ov_lanes.proofs.run.run_script.Given.{Over}
 use Rattle.ov_lanes.proofs.run.run_script.Goals as goal
 
 pub run_seated-requires : goal.run_seated-requires
@@ -65,8 +66,9 @@ run_seated-requires g c κs within =
       ),
     )
 
-pub returns-then-all-clause-legal : goal.returns-then-all-clause-legal
-returns-then-all-clause-legal g c =
+-- What the run ends with.
+is_over : (g : Over) (c : goal.After-drop-order-then-all g) → IsOver c.args.script c.args.first c.args.head (length c.as_slice-3.result.now) (length c.in_ok-dealt.dealt.items) c.in_ok-ovpn.ovpn c.run_seated.new.jobs.items (report_of (record { closed = c.close-closed.result; logs = c.of_vec-then-all.result }))
+is_over g c =
     let its = c.requires.1.1.1.1 in
     let lanes : List Lane = c.run_seated.new.jobs.items in
     let report : Report = report_of (record { closed = c.close-closed.result; logs = c.of_vec-then-all.result }) in
@@ -75,7 +77,7 @@ returns-then-all-clause-legal g c =
     let passes : c.of_vec.result ≡ passes_of lanes = c.of_vec.ensures ∙ c.take_in-all.ensures.passes in
     let count : length c.in_ok-dealt.dealt.items ≡ c.args.lanes = c.in_ok-dealt.ensures.counted in
     let headed : length c.as_slice-3.result.now ≡ length (take c.args.head c.args.script.lines) = ap length (c.as_slice-3.ensures.value ∙ c.in_ok-order.ensures ∙ ap (λ (ls : List Line). map (λ line. line.lane) (take c.args.head ls)) c.as_slice.ensures) ∙ length-map (take c.args.head c.args.script.lines) (λ (l : Line). l.lane) in
-    let over : IsOver c.args.script c.args.first c.args.head (length c.as_slice-3.result.now) (length c.in_ok-dealt.dealt.items) c.in_ok-ovpn.ovpn lanes report = record {
+    record {
       all = subst (λ (ls : List Line). HaveRunAll c.in_ok-ovpn.ovpn ls (length c.as_slice-3.result.now) (length c.in_ok-dealt.dealt.items) lanes) lines c.run_seated.ensures;
       on = c.if-all.ensures.on refl;
       routes = c.in_ok-ovpn.ensures.routes;
@@ -85,31 +87,13 @@ returns-then-all-clause-legal g c =
       released = c.close-closed.ensures.releases.all;
       logs = logs;
       headed = headed;
-    } in
-    over_legal c.args.script c.args.first c.args.head (length c.as_slice-3.result.now) (length c.in_ok-dealt.dealt.items) c.in_ok-ovpn.ovpn lanes report over
+    }
+
+pub returns-then-all-clause-legal : goal.returns-then-all-clause-legal
+returns-then-all-clause-legal g c = over_legal c.args.script c.args.first c.args.head (length c.as_slice-3.result.now) (length c.in_ok-dealt.dealt.items) c.in_ok-ovpn.ovpn c.run_seated.new.jobs.items (report_of (record { closed = c.close-closed.result; logs = c.of_vec-then-all.result })) (is_over g c)
 
 pub returns-then-all-clause-head : goal.returns-then-all-clause-head
-returns-then-all-clause-head g c =
-    let its = c.requires.1.1.1.1 in
-    let lanes : List Lane = c.run_seated.new.jobs.items in
-    let report : Report = report_of (record { closed = c.close-closed.result; logs = c.of_vec-then-all.result }) in
-    let lines : g.it.lines ≡ c.args.script.lines = its.0 in
-    let logs : c.of_vec-then-all.result ≡ map log_of lanes = c.of_vec-then-all.ensures ∙ c.take_in-all.ensures.logs in
-    let passes : c.of_vec.result ≡ passes_of lanes = c.of_vec.ensures ∙ c.take_in-all.ensures.passes in
-    let count : length c.in_ok-dealt.dealt.items ≡ c.args.lanes = c.in_ok-dealt.ensures.counted in
-    let headed : length c.as_slice-3.result.now ≡ length (take c.args.head c.args.script.lines) = ap length (c.as_slice-3.ensures.value ∙ c.in_ok-order.ensures ∙ ap (λ (ls : List Line). map (λ line. line.lane) (take c.args.head ls)) c.as_slice.ensures) ∙ length-map (take c.args.head c.args.script.lines) (λ (l : Line). l.lane) in
-    let over : IsOver c.args.script c.args.first c.args.head (length c.as_slice-3.result.now) (length c.in_ok-dealt.dealt.items) c.in_ok-ovpn.ovpn lanes report = record {
-      all = subst (λ (ls : List Line). HaveRunAll c.in_ok-ovpn.ovpn ls (length c.as_slice-3.result.now) (length c.in_ok-dealt.dealt.items) lanes) lines c.run_seated.ensures;
-      on = c.if-all.ensures.on refl;
-      routes = c.in_ok-ovpn.ensures.routes;
-      begin = omega (arith, c.ranges.first.fits);
-      named = subst (λ n. AllByRecursion (λ (line : Line). line.lane < n) c.args.script.lines) (sym count) (subst (AllByRecursion (λ (line : Line). line.lane < c.args.lanes)) lines its.1.1.1.1.0);
-      history = subst (λ n. OneHistory n report.journal report.notes report.shards (passes_of lanes)) c.in_ok-ovpn.ensures.first (subst (λ (ps : List Passing). OneHistory c.in_ok-ovpn.ovpn.words.counters.first report.journal report.notes report.shards ps) passes c.close-closed.ensures.history);
-      released = c.close-closed.ensures.releases.all;
-      logs = logs;
-      headed = headed;
-    } in
-    over_headed c.args.script c.args.first c.args.head (length c.as_slice-3.result.now) (length c.in_ok-dealt.dealt.items) c.in_ok-ovpn.ovpn lanes report over
+returns-then-all-clause-head g c = over_headed c.args.script c.args.first c.args.head (length c.as_slice-3.result.now) (length c.in_ok-dealt.dealt.items) c.in_ok-ovpn.ovpn c.run_seated.new.jobs.items (report_of (record { closed = c.close-closed.result; logs = c.of_vec-then-all.result })) (is_over g c)
 
 pub returns-then-all-clause-plain : goal.returns-then-all-clause-plain
 returns-then-all-clause-plain g c = subst ArePlain (sym (c.of_vec-then-all.ensures ∙ c.take_in-all.ensures.logs)) (logs_plain c.run_seated.new.jobs.items)
